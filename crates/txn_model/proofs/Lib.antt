@@ -1,0 +1,5 @@
+pub mod SortedRows
+pub mod TupleOrder
+pub mod OperandLaws
+pub mod PlaceOrder
+pub mod SerialLaws

@@ -1,0 +1,18 @@
+use Rattle.std.proofs.Common.{SFits, w64, rules, Some, sym, ap, ◌∙◌}
+use Rattle.std.proofs.lemmas.Int.{to_z-of_z}
+use Rattle.std.specs.FinMap as fin
+use Rattle.txn_model.proofs.SortedRows.{get_at, get_absent}
+use Rattle.txn_model.proofs.PlaceOrder.{place_cmp_total}
+use Rattle.txn_model.proofs.place.PlaceMap.get.Goals as goal
+
+pub returns-in-Ok : goal.returns-in-Ok
+returns-in-Ok c =
+    let row = c.index.result.now in
+    let fits : SFits w64 row.1 = search rules in
+    let found = rw c.as_slice.ensures.value at c.in-Ok.ensures in
+    ap Some (to_z-of_z w64 row.1 fits) ∙ sym (ap (λ m. fin.get m c.args.place) (sym c.self.view_is) ∙ get_at place_cmp_total _ c.self.invariant c.args.place c.in-Ok.at row found.0 (found.1 row) c.index.ensures)
+
+pub returns-in-Err : goal.returns-in-Err
+returns-in-Err c =
+    let none = rw c.as_slice.ensures.value at c.in-Err.ensures in
+    sym (ap (λ m. fin.get m c.args.place) (sym c.self.view_is) ∙ get_absent place_cmp_total _ c.self.invariant c.args.place none)

@@ -1,0 +1,8 @@
+use Rattle.std.proofs.Common.{ap, ◌∙◌}
+use Rattle.std.specs.FinMap as fin
+use Rattle.txn_model.proofs.SortedRows.{rows_are_entries}
+use Rattle.txn_model.proofs.TupleOrder.{tuple_cmp_total}
+use Rattle.txn_model.proofs.tuple_map.TupleMap.rows.Goals as goal
+
+pub returns : goal.returns
+returns c = c.as_slice.ensures.value ∙ rows_are_entries tuple_cmp_total _ c.self.invariant ∙ ap fin.entries c.self.view_is

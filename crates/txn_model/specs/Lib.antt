@@ -1,0 +1,7 @@
+pub mod Number
+pub mod Listed
+pub mod Needs
+pub mod Tuples
+pub mod Places
+pub mod Serial
+pub mod ScriptCheck

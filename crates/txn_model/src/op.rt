@@ -1,0 +1,119 @@
+//! Tuples, and the operations of a script: an act on one tuple, and what it needs of earlier operations.
+
+ghost use Rattle.std.specs.Prelude.{◌≡◌, ◌<◌, ◌≤◌, [], ◌∷◌, ◌++◌, length, slice_get, Some, IsTrue, ◌↔◌};
+
+/// The name of a tuple.
+#[derive(Clone, Copy, Debug, PartialEq, Eq, PartialOrd, Ord)]
+pub struct TupleId(pub u32);
+
+/// Which part of an earlier operation's reply is needed.
+#[derive(Clone, Copy, Debug, PartialEq, Eq)]
+pub enum Which {
+    /// The value that it found.
+    Old,
+    /// The value that it found less the one that it left, wrapped.
+    Moved,
+}
+
+/// What an operation needs of an earlier one of the same script.
+#[derive(Clone, Copy, Debug, PartialEq, Eq)]
+pub struct Need {
+    /// The number of the earlier operation, counted from 0.
+    pub from: u8,
+    pub which: Which,
+}
+
+/// A list of at most four needs. Each list has one form, so that equal lists are equal values.
+#[derive(Clone, Copy, Debug, PartialEq, Eq)]
+pub enum Needs {
+    Zero,
+    One(Need),
+    Two(Need, Need),
+    Three(Need, Need, Need),
+    Four(Need, Need, Need, Need),
+}
+
+impl Needs {
+    ghost use Rattle.txn_model.specs.Needs.{needs_list};
+
+    /// No needs.
+    pub fn none() -> Needs
+        ensures { needs_list result ≡ [] }
+    {
+        Needs::Zero
+    }
+
+    /// Adds one need at the end.
+    pub fn push(&mut self, need: Need)
+        requires { length (needs_list self.old) < 4 }
+        ensures { needs_list self.new ≡ needs_list self.old ++ need ∷ [] }
+    {
+        *self = match *self {
+            Needs::Zero => Needs::One(need),
+            Needs::One(a) => Needs::Two(a, need),
+            Needs::Two(a, b) => Needs::Three(a, b, need),
+            Needs::Three(a, b, c) => Needs::Four(a, b, c, need),
+            Needs::Four(..) => unreachable!(),
+        };
+    }
+
+    /// How many needs there are: 0 to 4.
+    pub fn len(&self) -> u8
+        ensures value { result ≡ length (needs_list self.now) }
+        ensures bound { result ≤ 4 }
+    {
+        match self {
+            Needs::Zero => 0,
+            Needs::One(..) => 1,
+            Needs::Two(..) => 2,
+            Needs::Three(..) => 3,
+            Needs::Four(..) => 4,
+        }
+    }
+
+    /// Whether there are none.
+    pub fn is_empty(&self) -> bool
+        ensures { IsTrue result ↔ (needs_list self.now ≡ []) }
+    {
+        matches!(self, Needs::Zero)
+    }
+
+    /// The need at a place, counted from 0.
+    pub fn get(&self, i: u8) -> Need
+        requires { i < length (needs_list self.now) }
+        ensures { slice_get (needs_list self.now) i ≡ Some result }
+    {
+        match (*self, i) {
+            (
+                Needs::One(a) | Needs::Two(a, _) | Needs::Three(a, _, _) | Needs::Four(a, _, _, _),
+                0,
+            ) => a,
+            (Needs::Two(_, b) | Needs::Three(_, b, _) | Needs::Four(_, b, _, _), 1) => b,
+            (Needs::Three(_, _, c) | Needs::Four(_, _, c, _), 2) => c,
+            (Needs::Four(_, _, _, d), 3) => d,
+            _ => unreachable!(),
+        }
+    }
+}
+
+/// What an operation does to its tuple. All arithmetic is modulo 2^64.
+#[derive(Clone, Copy, Debug, PartialEq, Eq)]
+pub enum Act {
+    /// Leaves the value as it is.
+    Read,
+    /// Leaves the base and the operand, added.
+    Put { base: i64 },
+    /// Adds the base and the operand to the value.
+    Add { base: i64 },
+    /// Adds `above` where the value and the operand together are at least `limit`, else `below`.
+    Choose { limit: i64, above: i64, below: i64 },
+}
+
+/// One operation of a script.
+#[derive(Clone, Copy, Debug, PartialEq, Eq)]
+pub struct Op {
+    pub tuple: TupleId,
+    pub act: Act,
+    /// What its operand is made of; a read has none.
+    pub needs: Needs,
+}
