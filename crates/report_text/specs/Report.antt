@@ -7,20 +7,20 @@ use Rattle.txn_model.specs.declared.op.TupleId.{TupleId}
 use Rattle.txn_model.specs.declared.pairs.Pair.{Pair}
 use Rattle.txn_model.specs.declared.stamp.Stamp.{Stamp}
 
--- how an item ended: committed with its kind, stamp and pairs; aborted, with the tuple, the holder and the place in
--- the trace of its last refusal; or a loss, which has no more to tell
+-- how an item ended: answered, with a pair for each operation; given up, with the tuple, its holder and the place in
+-- the trace, counted from 0, of its last refusal; or it was the loss of the switch
 pub data PlainEnd : Type 0 where
-  Committed : Kind → Stamp → List Pair → PlainEnd
-  Aborted : TupleId → ℕ → ℕ → PlainEnd
+  Committed : (kind : Kind) (stamp : Stamp) (pairs : List Pair) → PlainEnd
+  Aborted : (tuple : TupleId) (holder at : ℕ) → PlainEnd
   Lost : PlainEnd
 
--- an item of a client, by its number there, and how it ended
+-- an item: its client, its number there, and how it ended
 pub record PlainItem : Type 0 where
   pub client : ℕ
   pub seq : ℕ
   pub end : PlainEnd
 
--- the items by client and number, the history in its order, the final tuples by id, and the trace of those that moved
+-- the items by client and number, the history in its order, the final tuples by id, and the actors that moved
 pub record Report : Type 0 where
   pub items : List PlainItem
   pub history : List Entry

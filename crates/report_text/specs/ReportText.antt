@@ -1,7 +1,6 @@
--- The text of a report: its sections, each with a line that counts its lines, and the schedule.
+-- The text of a report: three sections, each headed by a line that counts its lines, and the schedule.
 use Rattle.std.specs.Prelude.{ℕ, ℤ, List, ◌++◌, codes, length}
 use Rattle.std.specs.List.{flat_map}
-use Rattle.catalogue.specs.declared.actor.Actor.{Actor}
 use Rattle.history_model.specs.declared.entry.Entry.{Entry}
 use Rattle.txn_model.specs.declared.op.TupleId.{TupleId}
 use Rattle.report_text.specs.Report.{PlainItem, Report}
