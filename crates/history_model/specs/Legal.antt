@@ -4,7 +4,7 @@ use Rattle.txn_model.specs.Tuples.{Tuples}
 use Rattle.txn_model.specs.Serial.{serial_run}
 use Rattle.txn_model.specs.declared.op.Op.{Op}
 use Rattle.txn_model.specs.declared.pairs.Pair.{Pair}
-use Rattle.history_model.specs.History.{HistoryEntry, History}
+use Rattle.history_model.specs.History.{History}
 
 -- the scripts of a history's entries, in its order; script_at tells the script of a client's item
 abbrev pub scripts_of : (ℕ → ℕ → List Op) → History → List (List Op)

@@ -10,3 +10,16 @@ pub struct Entry {
     /// The number of the client's item, counted from 1.
     pub seq: u32,
 }
+
+impl Entry {
+    ghost use Rattle.std.specs.Prelude.{◌≡◌, ◌↔◌, IsTrue};
+    ghost use Rattle.std.specs.declared.cmp.Ordering.TheVariants.{Less};
+    ghost use Rattle.history_model.specs.History.{entry_cmp};
+
+    /// Whether it stands before the other one in a history: by stamp, then client.
+    pub fn stands_before(&self, other: &Entry) -> bool
+        ensures { IsTrue result ↔ (entry_cmp self.now other.now ≡ Less) }
+    {
+        (self.stamp, self.client) < (other.stamp, other.client)
+    }
+}

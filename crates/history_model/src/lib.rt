@@ -6,5 +6,10 @@
 #![tactic(auto)]
 
 mod entry;
+mod laws;
 
 pub use entry::Entry;
+pub use laws::{insertion_keeps_replies, serial_runs_are_chains};
+
+#[cfg(test)]
+mod tests;
