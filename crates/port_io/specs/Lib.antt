@@ -1,0 +1,4 @@
+pub mod Cause
+pub mod LogRack
+pub mod ReadAll
+pub mod WriteAll
