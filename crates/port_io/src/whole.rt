@@ -1,6 +1,6 @@
 //! Reading a source to its end, and writing a text in whole.
-ghost use Rattle.std.specs.Prelude.{ℕ, IfOk, IfErr, OnOk, OnErr, IsErrOf};
-ghost use Rattle.std.specs.Io.KnownBytes.{Appends};
+ghost use Rattle.std.specs.Prelude.{◌≡◌, ℕ, ◌<◌, ◌≤◌, length, IfOk, IfErr, OnOk, OnErr, IsErr, IsErrOf, vec_len};
+ghost use Rattle.std.specs.Io.KnownBytes.{Appends, ReadConsumes};
 ghost use Rattle.port_io.specs.declared.whole.ReadAllFault.TheVariants.{NoMemory};
 ghost use Rattle.port_io.specs.Cause.{HasCause};
 ghost use Rattle.port_io.specs.ReadAll.{TakesAll, StopsAfter};
@@ -38,12 +38,12 @@ pub fn read_all<S: Source>(alloc: Global, source: &mut S, most: usize) -> Result
     ensures stopped { IfErr result (λ fault. StopsAfter fault most (S.left source.old) (S.left source.new)) }
     ensures cause { HasCause (S.faults source.old) (S.faults source.new) (IsErrOf result ReadAllFault.Failed) }
 {
-    let mut buf = vec![in alloc; 0; PIECE]?;
+    let mut buf = zeros(alloc, PIECE)?;
     let mut bytes = Vec::new(alloc);
     loop {
         // One byte beyond the limit tells that the source is too long.
         let room = (most - bytes.len()).saturating_add(1).min(PIECE);
-        let Ok(count) = source.read(&mut buf[..room]) else {
+        let Ok(count) = read_some(source, &mut buf, room) else {
             return Err(ReadAllFault::Failed);
         };
         if count == 0 {
@@ -54,6 +54,23 @@ pub fn read_all<S: Source>(alloc: Global, source: &mut S, most: usize) -> Result
         }
         bytes.extend_from_slice(&buf[..count])?;
     }
+}
+
+/// One read of at most `room` bytes, to the front of `buf`.
+fn read_some<S: Source>(source: &mut S, buf: &mut [u8], room: usize) -> Result<usize, Failed>
+    requires some { 0 < room }
+    requires fits { room ≤ length buf.old }
+    ensures bound { IfOk result (λ n. n ≤ room) }
+    ensures bytes { ReadConsumes (S.left source.old) (S.left source.new) result buf.new }
+    ensures cause { HasCause (S.faults source.old) (S.faults source.new) (IsErr result) }
+{
+    source.read(&mut buf[..room])
+}
+
+fn zeros(alloc: Global, len: usize) -> Result<Vec<u8>, AllocError>
+    ensures { IfOk result (λ buf. vec_len buf ≡ len) }
+{
+    vec![in alloc; 0; len]
 }
 
 /// Appends all the bytes to a sink.
