@@ -1,6 +1,6 @@
 -- Lemmas on what is known of the bytes of sources and sinks.
 use Rattle.std.proofs.Common.{◌≡◌, ℕ, ◌+◌, ◌-◌, ◌≤◌, List, [], ◌++◌, length, take, drop, refl, sym, ap, ◌∙◌, subst}
-use Rattle.std.proofs.lemmas.List.{append-nil, take_rest, take-take, take-append-le}
+use Rattle.std.proofs.lemmas.List.{append-nil, take_rest, take-take, take-append-le, take-append-drop, drop-drop}
 use Rattle.std.proofs.Math.Seq.{take-add}
 use Rattle.std.specs.Prelude.{Option}
 use Rattle.std.specs.Io.KnownBytes.{Appends, Consumes}
@@ -26,3 +26,9 @@ Appends-front a b c text i n p q =
 pub take-written : (now written old : List ℕ) (len n : ℕ) → now ≡ take len (written ++ drop (length written) old) → n ≤ len → n ≤ length written → take n now ≡ take n written
 take-written now written old len n is in_buf in_written =
     ap (take n) is ∙ take-take n len _ in_buf ∙ take-append-le n written _ in_written
+
+-- what is left from a place on, after its first bytes were copied
+pub drop-copied : (all to : List ℕ) (at count : ℕ) → take count to ≡ take count (drop at all) → drop at all ≡ take count to ++ drop (at + count) all
+drop-copied all to at count front =
+    let rest = drop at all in
+    sym (take-append-drop count rest) ∙ ap (λ l. l ++ drop count rest) (sym front) ∙ ap (λ l. take count to ++ l) (drop-drop count at all)

@@ -1,4 +1,6 @@
+pub mod Calls
 pub mod Cause
+pub mod InMemory
 pub mod LogRack
 pub mod ReadAll
 pub mod WriteAll

@@ -5,12 +5,21 @@
 //! nothing. A call answers that it failed only where the object's count of failures rose.
 #![tactic(auto)]
 
+mod calls;
+mod clean;
 mod log_rack;
+mod mem;
 mod sink;
 mod source;
+mod stdio;
 mod whole;
+mod word;
 
+pub use clean::{CleanRack, CleanSink, CleanSource};
 pub use log_rack::{LogRack, RackFault};
+pub use mem::{MemSink, MemSource};
 pub use sink::{Sink, SinkFault};
 pub use source::{Failed, Source};
+pub use stdio::{StdSink, StdSource};
 pub use whole::{ReadAllFault, read_all, write_all};
+pub use word::Word;

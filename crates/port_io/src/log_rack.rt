@@ -2,18 +2,27 @@
 ghost use Rattle.std.specs.Prelude.{◌≡◌, ◌⊎◌, ℕ, Bool, ◌<◌, List, [], Option, Some, IsTrue, IsSome, IfSome, IsErr, IsErrOf, IfOk, OnOk, OnErr};
 ghost use Rattle.std.specs.Io.{ReadsAtMost};
 ghost use Rattle.std.specs.Io.KnownBytes.{Appends};
+ghost use Rattle.port_io.specs.declared.log_rack.RackFault.TheVariants.{NoMemory};
 ghost use Rattle.port_io.specs.Cause.{HasCause};
 ghost use Rattle.port_io.specs.LogRack.{AllStay, OthersStay, GivesFrom};
 ghost use Rattle.port_io.specs.WriteAll.{AppendsFront};
 
 use crate::Failed;
-use std::alloc::Global;
+use std::alloc::{AllocError, Global};
 
 /// Why a log did not take the whole piece.
 #[derive(Clone, Copy, Debug, PartialEq, Eq)]
 pub enum RackFault {
     Failed,
     NoMemory,
+}
+
+impl From<AllocError> for RackFault {
+    ghost from_gives = { λ _ fault. fault ≡ NoMemory };
+
+    fn from(_: AllocError) -> Self {
+        RackFault::NoMemory
+    }
 }
 
 /// Holds a log for each of eight clients.

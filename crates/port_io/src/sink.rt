@@ -1,16 +1,25 @@
 //! Where bytes go.
-ghost use Rattle.std.specs.Prelude.{ℕ, ◌<◌, List, Option, length, IfOk, IsErrOf};
+ghost use Rattle.std.specs.Prelude.{◌≡◌, ℕ, ◌<◌, List, Option, length, IfOk, IsErrOf};
 ghost use Rattle.std.specs.Io.{WritesAtMost};
 ghost use Rattle.std.specs.Io.KnownBytes.{WriteAppends};
+ghost use Rattle.port_io.specs.declared.sink.SinkFault.TheVariants.{NoMemory};
 ghost use Rattle.port_io.specs.Cause.{HasCause};
 
-use std::alloc::Global;
+use std::alloc::{AllocError, Global};
 
 /// Why a sink took nothing.
 #[derive(Clone, Copy, Debug, PartialEq, Eq)]
 pub enum SinkFault {
     Failed,
     NoMemory,
+}
+
+impl From<AllocError> for SinkFault {
+    ghost from_gives = { λ _ fault. fault ≡ NoMemory };
+
+    fn from(_: AllocError) -> Self {
+        SinkFault::NoMemory
+    }
 }
 
 /// Takes bytes, a piece at a time.
