@@ -1,6 +1,7 @@
 -- The calls of an object, of which some are to fail.
-use Rattle.std.specs.Prelude.{ℕ, ◌+◌, ◌-◌, ◌^◌, min, Bool, List, ◌==◌, if◌then◌else◌}
+use Rattle.std.specs.Prelude.{ℕ, ◌+◌, Bool, List, ◌==◌, if◌then◌else◌}
 use Rattle.std.specs.List.{list_any}
+use Rattle.port_io.specs.Cause.{count_on}
 
 -- the numbers of the calls that are to fail, how many calls there were, and how many of those failed
 pub record CallCount : Type 0 where
@@ -12,9 +13,9 @@ pub record CallCount : Type 0 where
 abbrev pub no_calls : List ℕ → CallCount
 no_calls fails = record { fails = fails; made = 0; failed = 0 }
 
--- the number of the next call; they count from 1, and stop at the most that a `u64` holds
+-- the number of the next call
 abbrev pub next_number : CallCount → ℕ
-next_number calls = min (calls.made + 1) (2 ^ 64 - 1)
+next_number calls = count_on calls.made
 
 -- whether the next call fails
 abbrev pub next_fails : CallCount → Bool

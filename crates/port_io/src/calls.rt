@@ -1,7 +1,7 @@
 //! The calls of an object in memory, some of which are to fail.
 ghost use Rattle.std.specs.Prelude.{◌≡◌, ◌==◌, ◌<◌, ◌^◌, IsTrue};
 ghost use Rattle.std.specs.List.{list_any};
-ghost use Rattle.port_io.specs.Calls.{no_calls, next_fails, after_next};
+ghost use Rattle.port_io.specs.Calls.{no_calls, next_number, next_fails, after_next};
 
 use std::marker::Model;
 
@@ -39,6 +39,7 @@ impl Calls {
     pub(crate) fn next_fails(&mut self) -> bool
         ensures fails { result ≡ next_fails self.old }
         ensures after { self.new ≡ after_next self.old }
+        ensures not_late { IsTrue result → next_number self.old < 2 ^ 32 }
     {
         self.made = self.made.saturating_add(1);
         let fails = is_listed(&self.fails, self.made);

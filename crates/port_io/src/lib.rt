@@ -23,3 +23,6 @@ pub use source::{Failed, Source};
 pub use stdio::{StdSink, StdSource};
 pub use whole::{ReadAllFault, read_all, write_all};
 pub use word::Word;
+
+#[cfg(test)]
+mod tests;

@@ -1,8 +1,8 @@
 //! In memory: a source and a sink whose calls fail by number.
-ghost use Rattle.std.specs.Prelude.{◌≡◌, ◌↔◌, ℕ, ◌<◌, ◌≤◌, List, [], length, Some, IsTrue, IsErr, IfOk, IsErrOf};
+ghost use Rattle.std.specs.Prelude.{◌≡◌, ◌↔◌, ℕ, ◌^◌, ◌<◌, ◌≤◌, List, [], length, Some, IsTrue, IsErr, IfOk, IsErrOf};
 ghost use Rattle.std.specs.Io.{ReadsAtMost, WritesAtMost};
 ghost use Rattle.std.specs.Io.KnownBytes.{ReadConsumes, WriteAppends};
-ghost use Rattle.port_io.specs.Calls.{no_calls, next_fails, after_next};
+ghost use Rattle.port_io.specs.Calls.{no_calls, next_number, next_fails, after_next};
 ghost use Rattle.port_io.specs.Cause.{HasCause};
 
 use crate::calls::Calls;
@@ -50,6 +50,7 @@ impl Source for MemSource {
 
         // Which calls fail.
         ensures fails { IsErr result ↔ IsTrue (next_fails self.old.calls) }
+        ensures not_late { IsErr result → next_number self.old.calls < 2 ^ 32 }
         ensures calls { self.new.calls ≡ after_next self.old.calls }
     {
         if self.calls.next_fails() {
@@ -115,6 +116,7 @@ impl Sink for MemSink {
         ensures most { IfOk result (λ n. n ≤ self.old.most) }
         ensures same_most { self.new.most ≡ self.old.most }
         ensures fails { IsErrOf result SinkFault.Failed ↔ IsTrue (next_fails self.old.calls) }
+        ensures not_late { IsErrOf result SinkFault.Failed → next_number self.old.calls < 2 ^ 32 }
         ensures calls { self.new.calls ≡ after_next self.old.calls }
     {
         if self.calls.next_fails() {

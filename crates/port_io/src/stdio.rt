@@ -1,5 +1,8 @@
 //! The process's own standard input and standard output.
-ghost use Rattle.std.specs.Prelude.{◌≡◌, ◌<◌, ◌≤◌, length, None, IfSome};
+ghost use Rattle.std.specs.Prelude.{◌≡◌, ◌<◌, ◌≤◌, length, None, is_ok, IfSome, IfOk, IsErr, IsErrOf, if◌then◌else◌};
+ghost use Rattle.std.specs.Io.{ReadsAtMost, WritesAtMost};
+ghost use Rattle.std.specs.Io.KnownBytes.{ReadConsumes, WriteAppends};
+ghost use Rattle.port_io.specs.Cause.{HasCause, count_on};
 
 use crate::{Failed, Sink, SinkFault, Source};
 use std::alloc::Global;
@@ -37,7 +40,12 @@ impl<R: Read> Source for StdSource<R> {
 
     ghost faults = { λ source. source };
 
-    fn read(&mut self, buf: &mut [u8]) -> Result<usize, Failed> {
+    fn read(&mut self, buf: &mut [u8]) -> Result<usize, Failed>
+        ensures bound { ReadsAtMost result buf.new }
+        ensures bytes { ReadConsumes None None result buf.new }
+        ensures cause { HasCause self.old self.new (IsErr result) }
+        ensures count { self.new ≡ (if is_ok result then self.old else count_on self.old) }
+    {
         match self.reader.read(buf) {
             Ok(count) => Ok(count),
             Err(_) => {
@@ -80,7 +88,13 @@ impl<W: Write> Sink for StdSink<W> {
 
     ghost faults = { λ sink. sink };
 
-    fn write(&mut self, _alloc: Global, piece: &[u8]) -> Result<usize, SinkFault> {
+    fn write(&mut self, _alloc: Global, piece: &[u8]) -> Result<usize, SinkFault>
+        ensures bound { WritesAtMost result piece.now }
+        ensures progress { IfOk result (λ n. 0 < length piece.now → 0 < n) }
+        ensures bytes { WriteAppends None None result piece.now }
+        ensures cause { HasCause self.old self.new (IsErrOf result SinkFault.Failed) }
+        ensures count { self.new ≡ (if is_ok result then self.old else count_on self.old) }
+    {
         match write_through(&mut self.writer, piece) {
             Some(count) => Ok(count),
             None => {
@@ -102,4 +116,89 @@ fn write_through<W: Write>(writer: &mut W, piece: &[u8]) -> Option<usize>
         return None;
     }
     Some(count)
+}
+
+#[cfg(test)]
+mod tests {
+    use super::*;
+    use std::io;
+    use std::io::ErrorKind;
+    use std::test::Fail;
+
+    // Fails at every other call, and else fills the buffer with the letter a.
+    #[derive(Drop)]
+    struct Flickering {
+        is_on: bool,
+    }
+
+    impl Read for Flickering {
+        fn read(&mut self, buf: &mut [u8]) -> io::Result<usize> {
+            self.is_on = !self.is_on;
+            if self.is_on {
+                return Err(io::Error::from(ErrorKind::Other));
+            }
+            buf.fill(b'a');
+            Ok(buf.len())
+        }
+    }
+
+    // Takes at most so many bytes of a piece.
+    #[derive(Drop)]
+    struct Narrow {
+        takes: usize,
+        flushes: bool,
+    }
+
+    impl Write for Narrow {
+        fn write(&mut self, buf: &[u8]) -> io::Result<usize> {
+            Ok(buf.len().min(self.takes))
+        }
+
+        fn flush(&mut self) -> io::Result<()> {
+            if self.flushes {
+                Ok(())
+            } else {
+                Err(io::Error::from(ErrorKind::Other))
+            }
+        }
+    }
+
+    #[test]
+    fn each_failure_of_a_reader_counts(rt: HostRuntime) {
+        let reader = Flickering { is_on: false };
+        let mut source = StdSource { reader, failed: 0 };
+        let mut buf = [0; 2];
+        assert_eq!(rt; source.read(&mut buf), Err(Failed));
+        assert_eq!(rt; source.read(&mut buf), Ok(2));
+        assert_eq!(rt; source.read(&mut buf), Err(Failed));
+        assert_eq!(rt; buf, *b"aa");
+        assert_eq!(rt; source.failed, 2);
+    }
+
+    #[test]
+    fn each_failure_of_a_writer_counts(rt: HostRuntime) {
+        let failed = Err(SinkFault::Failed);
+        let cases = [
+            (2, true, b"abc".as_slice(), Ok(2), 0),
+            (0, true, b"abc".as_slice(), failed, 1),
+            (0, true, b"".as_slice(), Ok(0), 0),
+            (2, false, b"abc".as_slice(), failed, 1),
+        ];
+        for (takes, flushes, piece, want, count) in cases {
+            let writer = Narrow { takes, flushes };
+            let mut sink = StdSink { writer, failed: 0 };
+            assert_eq!(rt; sink.write(rt.alloc(), piece), want);
+            assert_eq!(rt; sink.failed, count);
+        }
+    }
+
+    #[test]
+    fn the_process_has_both_streams(rt: HostRuntime) -> Result<(), Fail> {
+        let mut source = StdSource::fresh(&rt);
+        assert_eq!(rt; source.read(&mut []), Ok(0));
+        let mut sink = StdSink::fresh(&rt);
+        assert_eq!(rt; sink.write(rt.alloc(), b""), Ok(0));
+        assert_eq!(rt; crate::write_all(rt.alloc(), &mut sink, b"written\n"), Ok(()));
+        Ok(())
+    }
 }
