@@ -14,14 +14,14 @@ Rose-sooner before middle now later rose = omega arith
 pub HasCause-ends : (before middle now : ℕ) (P Q : Type 0) → before ≤ middle → HasCause middle now P → (Q → P) → HasCause before now Q
 HasCause-ends before middle now P Q later cause same = record {
   later = let middle_later = cause.later in omega arith;
-  rose = λ q. Rose-sooner before middle now later (cause.rose (same q))
+  rose = λ q. Rose-sooner before middle now later (cause.rose (same q));
 }
 
 -- a run that did not fail has nothing to show
 pub HasCause-quiet : (before middle now : ℕ) (P Q : Type 0) → before ≤ middle → HasCause middle now P → (Q → ⊥) → HasCause before now Q
 HasCause-quiet before middle now P Q later cause quiet = record {
   later = let middle_later = cause.later in omega arith;
-  rose = λ q. absurd (quiet q)
+  rose = λ q. absurd (quiet q);
 }
 
 pub ok_is_no_failure : {T E : Type 0} (x : T) (e : E) → Ok x ≡ Err e → ⊥

@@ -26,5 +26,5 @@ abbrev pub after_next : CallCount → CallCount
 after_next calls = record {
   fails = calls.fails;
   made = next_number calls;
-  failed = (if next_fails calls then calls.failed + 1 else calls.failed)
+  failed = (if next_fails calls then calls.failed + 1 else calls.failed);
 }

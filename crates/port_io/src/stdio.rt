@@ -1,7 +1,7 @@
 //! The process's own standard input and standard output.
-ghost use Rattle.std.specs.Prelude.{◌≡◌, ◌<◌, ◌≤◌, length, None, is_ok, IfSome, IfOk, IsErr, IsErrOf, if◌then◌else◌};
+ghost use Rattle.std.specs.Prelude.{◌≡◌, ◌<◌, ◌≤◌, length, take, None, is_ok, IfSome, IfOk, IsErr, IsErrOf, if◌then◌else◌};
 ghost use Rattle.std.specs.Io.{ReadsAtMost, WritesAtMost};
-ghost use Rattle.std.specs.Io.KnownBytes.{ReadConsumes, WriteAppends};
+ghost use Rattle.std.specs.Io.KnownBytes.{Appends, ReadConsumes, WriteAppends};
 ghost use Rattle.port_io.specs.Cause.{HasCause, count_on};
 
 use crate::{Failed, Sink, SinkFault, Source};
@@ -9,7 +9,7 @@ use std::alloc::Global;
 use std::io::{Printer, Read, Write};
 use std::marker::Model;
 
-/// Standard input. It tells nothing, and contracts see it as the number of its failures.
+/// Standard input. It tells nothing, but it gives what its reader gives.
 #[derive(Drop)]
 pub struct StdSource<R: Read> {
     reader: R,
@@ -17,16 +17,16 @@ pub struct StdSource<R: Read> {
 }
 
 impl<R: Read> Model for StdSource<R> {
-    ghost use Rattle.std.specs.Prelude.{ℕ};
+    ghost use Rattle.port_io.specs.Stream.{Stream};
 
-    ghost Value = { ℕ };
+    ghost Value = { Stream R };
 
-    ghost view = { λ source. source.failed };
+    ghost view = { λ source. record { stream = source.reader; failed = source.failed } };
 }
 
 impl<R: Read> StdSource<R> {
     pub fn fresh<I: Input<Reader = R>>(rt: &I) -> StdSource<R>
-        ensures { result ≡ 0 }
+        ensures { result.failed ≡ 0 }
     {
         StdSource {
             reader: rt.reader(),
@@ -38,13 +38,16 @@ impl<R: Read> StdSource<R> {
 impl<R: Read> Source for StdSource<R> {
     ghost left = { λ _. None };
 
-    ghost faults = { λ source. source };
+    ghost faults = { λ source. source.failed };
 
     fn read(&mut self, buf: &mut [u8]) -> Result<usize, Failed>
         ensures bound { ReadsAtMost result buf.new }
         ensures bytes { ReadConsumes None None result buf.new }
-        ensures cause { HasCause self.old self.new (IsErr result) }
-        ensures count { self.new ≡ (if is_ok result then self.old else count_on self.old) }
+        ensures cause { HasCause self.old.failed self.new.failed (IsErr result) }
+
+        // What is read is what the reader gives, and each failure counts once.
+        ensures passed { ReadConsumes (R.remaining self.old.stream) (R.remaining self.new.stream) result buf.new }
+        ensures count { self.new.failed ≡ (if is_ok result then self.old.failed else count_on self.old.failed) }
     {
         match self.reader.read(buf) {
             Ok(count) => Ok(count),
@@ -56,8 +59,8 @@ impl<R: Read> Source for StdSource<R> {
     }
 }
 
-/// Standard output, flushed after each piece. It tells nothing, and contracts see it as the number
-/// of its failures.
+/// Standard output, flushed after each piece. It tells nothing, but what it takes goes to its
+/// writer. After a flush that failed, some of the piece may have gone there too.
 #[derive(Drop)]
 pub struct StdSink<W: Write> {
     writer: W,
@@ -65,16 +68,16 @@ pub struct StdSink<W: Write> {
 }
 
 impl<W: Write> Model for StdSink<W> {
-    ghost use Rattle.std.specs.Prelude.{ℕ};
+    ghost use Rattle.port_io.specs.Stream.{Stream};
 
-    ghost Value = { ℕ };
+    ghost Value = { Stream W };
 
-    ghost view = { λ sink. sink.failed };
+    ghost view = { λ sink. record { stream = sink.writer; failed = sink.failed } };
 }
 
 impl<'a, P: Print> StdSink<Printer<'a, P>> {
     pub fn fresh(rt: &'a P) -> StdSink<Printer<'a, P>>
-        ensures { result ≡ 0 }
+        ensures { result.failed ≡ 0 }
     {
         StdSink {
             writer: std::io::writer(rt),
@@ -86,14 +89,17 @@ impl<'a, P: Print> StdSink<Printer<'a, P>> {
 impl<W: Write> Sink for StdSink<W> {
     ghost content = { λ _. None };
 
-    ghost faults = { λ sink. sink };
+    ghost faults = { λ sink. sink.failed };
 
     fn write(&mut self, _alloc: Global, piece: &[u8]) -> Result<usize, SinkFault>
         ensures bound { WritesAtMost result piece.now }
         ensures progress { IfOk result (λ n. 0 < length piece.now → 0 < n) }
         ensures bytes { WriteAppends None None result piece.now }
-        ensures cause { HasCause self.old self.new (IsErrOf result SinkFault.Failed) }
-        ensures count { self.new ≡ (if is_ok result then self.old else count_on self.old) }
+        ensures cause { HasCause self.old.failed self.new.failed (IsErrOf result SinkFault.Failed) }
+
+        // What is taken went to the writer, and each failure counts once.
+        ensures passed { IfOk result (λ n. Appends (W.contents self.old.stream) (W.contents self.new.stream) (take n piece.now)) }
+        ensures count { self.new.failed ≡ (if is_ok result then self.old.failed else count_on self.old.failed) }
     {
         match write_through(&mut self.writer, piece) {
             Some(count) => Ok(count),
@@ -109,6 +115,7 @@ impl<W: Write> Sink for StdSink<W> {
 fn write_through<W: Write>(writer: &mut W, piece: &[u8]) -> Option<usize>
     ensures bound { IfSome result (λ n. n ≤ length piece.now) }
     ensures progress { IfSome result (λ n. 0 < length piece.now → 0 < n) }
+    ensures passed { IfSome result (λ n. Appends (W.contents writer.old) (W.contents writer.new) (take n piece.now)) }
 {
     let count = writer.write(piece).ok()?;
     writer.flush().ok()?;
@@ -198,7 +205,10 @@ mod tests {
         assert_eq!(rt; source.read(&mut []), Ok(0));
         let mut sink = StdSink::fresh(&rt);
         assert_eq!(rt; sink.write(rt.alloc(), b""), Ok(0));
-        assert_eq!(rt; crate::write_all(rt.alloc(), &mut sink, b"written\n"), Ok(()));
+        assert_eq!(rt;
+            crate::write_all(rt.alloc(), &mut sink, b"written\n"),
+            Ok(())
+        );
         Ok(())
     }
 }

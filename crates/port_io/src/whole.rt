@@ -33,7 +33,11 @@ const PIECE: usize = 65536;
 /// `TooLong` comes exactly where a byte beyond `most` was read, and one is read if there is one.
 /// `Failed` comes only where the source's count of failures rose. After a fault the bytes that were
 /// read are lost.
-pub fn read_all<S: Source>(alloc: Global, source: &mut S, most: usize) -> Result<Vec<u8>, ReadAllFault>
+pub fn read_all<S: Source>(
+    alloc: Global,
+    source: &mut S,
+    most: usize,
+) -> Result<Vec<u8>, ReadAllFault>
     ensures ok { IfOk result (λ bytes. TakesAll most (S.left source.old) (S.left source.new) bytes.items) }
     ensures stopped { IfErr result (λ fault. StopsAfter fault most (S.left source.old) (S.left source.new)) }
     ensures cause { HasCause (S.faults source.old) (S.faults source.new) (IsErrOf result ReadAllFault.Failed) }

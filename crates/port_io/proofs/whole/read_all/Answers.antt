@@ -1,4 +1,4 @@
-use Rattle.std.proofs.Common.{arith, ◌++◌, take, refl, subst}
+use Rattle.std.proofs.Common.{arith, ◌++◌, take, refl}
 use Rattle.std.proofs.lemmas.List.{length-append, length-take}
 use Rattle.std.proofs.lemmas.Result.{err_from_is_err_and}
 use Rattle.std.proofs.KnownBytes.{Consumes-kept, Consumes-trans}
@@ -17,7 +17,7 @@ pub returns-then-count-eq0-clause-ok : goal.returns-then-count-eq0-clause-ok
 returns-then-count-eq0-clause-ok g c = record {
   taken = Consumes-take_0 _ _ _ _ _ _ c.loop-count.invariant.taken c.in-Ok.ensures.bytes.0 c.if-count-eq0.true;
   within = omega (arith, c.loop-count.bytes.ok.0);
-  ended = c.in-Ok.ensures.bytes.1 c.if-count-eq0.true (omega arith)
+  ended = c.in-Ok.ensures.bytes.1 c.if-count-eq0.true (omega arith);
 }
 
 pub returns-then-count-eq0-clause-cause : goal.returns-then-count-eq0-clause-cause
@@ -25,10 +25,10 @@ returns-then-count-eq0-clause-cause g c = HasCause-quiet _ _ _ _ _ c.loop-count.
 
 pub returns-then-count-most-clause-stopped : goal.returns-then-count-most-clause-stopped
 returns-then-count-most-clause-stopped g c =
-    let gave = take c.in-Ok.count c.read_some.new.buf in
-    ( c.loop-count.bytes.items ++ gave
-    , omega (arith, length-append c.loop-count.bytes.items gave, length-take c.in-Ok.count c.read_some.new.buf, c.loop-count.bytes.ok.0, c.in-Ok.ensures.bound)
-    , Consumes-trans _ _ _ _ _ c.loop-count.invariant.taken c.in-Ok.ensures.bytes.0
+    let gave = take c.in-Ok.count c.read_some.new.buf in (
+      c.loop-count.bytes.items ++ gave,
+      omega (arith, length-append c.loop-count.bytes.items gave, length-take c.in-Ok.count c.read_some.new.buf, c.loop-count.bytes.ok.0, c.in-Ok.ensures.bound),
+      Consumes-trans _ _ _ _ _ c.loop-count.invariant.taken c.in-Ok.ensures.bytes.0,
     )
 
 pub returns-then-count-most-clause-cause : goal.returns-then-count-most-clause-cause
@@ -43,15 +43,16 @@ loop-count-preserved g c =
       room = omega arith;
       within = omega (arith, c.in_ok-extend_from_slice.ensures.len, length-take count c.deref.result.now);
       taken = rw (c.in_ok-extend_from_slice.ensures.items, same) (Consumes-trans _ _ _ _ _ c.loop-count.invariant.taken c.in-Ok.ensures.bytes.0);
-      later = omega (arith, c.in-Ok.ensures.cause.later)
+      later = omega (arith, c.in-Ok.ensures.cause.later);
     }
 
 pub returns-in_err-extend_from_slice-clause-stopped : goal.returns-in_err-extend_from_slice-clause-stopped
 returns-in_err-extend_from_slice-clause-stopped g c =
     let p = err_from_is_err_and c.from_residual-in_err-extend_from_slice.result c.from_residual-in_err-extend_from_slice.ensures.1 in
-    rw (p.1, p.2) (c.loop-count.bytes.items ++ take c.in-Ok.count c.read_some.new.buf
-    , omega (arith, length-append c.loop-count.bytes.items (take c.in-Ok.count c.read_some.new.buf), length-take c.in-Ok.count c.read_some.new.buf, c.loop-count.bytes.ok.0)
-    , Consumes-trans _ _ _ _ _ c.loop-count.invariant.taken c.in-Ok.ensures.bytes.0
+    rw (p.1, p.2) (
+      c.loop-count.bytes.items ++ take c.in-Ok.count c.read_some.new.buf,
+      omega (arith, length-append c.loop-count.bytes.items (take c.in-Ok.count c.read_some.new.buf), length-take c.in-Ok.count c.read_some.new.buf, c.loop-count.bytes.ok.0),
+      Consumes-trans _ _ _ _ _ c.loop-count.invariant.taken c.in-Ok.ensures.bytes.0,
     )
 
 pub returns-in_err-extend_from_slice-clause-cause :

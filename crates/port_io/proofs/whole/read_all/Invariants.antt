@@ -8,7 +8,7 @@ invariant-loop-count g l = record {
   room : vec_len l.buf ≡ 65536;
   within : vec_len l.bytes ≤ l.most;
   taken : Consumes (g.S.Source.left l.initial.source) (g.S.Source.left l.source) l.bytes.items;
-  later : g.S.Source.faults l.initial.source ≤ g.S.Source.faults l.source
+  later : g.S.Source.faults l.initial.source ≤ g.S.Source.faults l.source;
 }
 
 abbrev pub decreases-loop-count : goal.decreases-loop-count

@@ -10,5 +10,5 @@ loop-at-preserved g c =
     record {
       within = omega (arith, simp (length-take, length-drop) at wrote.bound);
       taken = Appends-front _ _ _ _ _ _ before.taken wrote.bytes;
-      later = omega (arith, wrote.cause.later)
+      later = omega (arith, wrote.cause.later);
     }

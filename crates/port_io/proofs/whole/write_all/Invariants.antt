@@ -7,7 +7,7 @@ abbrev pub invariant-loop-at : goal.invariant-loop-at
 invariant-loop-at g l = record {
   within : l.at ≤ length l.bytes;
   taken : Appends (g.K.Sink.content l.initial.sink) (g.K.Sink.content l.sink) (take l.at l.bytes);
-  later : g.K.Sink.faults l.initial.sink ≤ g.K.Sink.faults l.sink
+  later : g.K.Sink.faults l.initial.sink ≤ g.K.Sink.faults l.sink;
 }
 
 abbrev pub decreases-loop-at : goal.decreases-loop-at
