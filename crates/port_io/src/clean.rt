@@ -1,13 +1,12 @@
 //! In memory: a source, a sink and a rack that never fail.
-ghost use Rattle.std.proofs.Common.{rules};
-ghost use Rattle.std.specs.Prelude.{◌≡◌, ℕ, ◌<◌, min, List, [], length, take, Some, true};
+ghost use Rattle.std.specs.Prelude.{◌≡◌, ℕ, ◌<◌, min, List, [], length, take, Some, true, refl};
 ghost use Rattle.port_io.specs.LogRack.{log_of};
 
 use crate::{Failed, LogRack, RackFault, Sink, SinkFault, Source};
 use std::alloc::Global;
 use std::marker::Model;
 
-/// Gives the bytes that it was made of.
+/// Gives the bytes that it was made of, and never fails.
 #[derive(Debug, Drop)]
 pub struct CleanSource {
     bytes: Vec<u8>,
@@ -25,12 +24,14 @@ impl Model for CleanSource {
 }
 
 impl CleanSource {
+    /// A source in which these bytes are left.
     pub fn of(bytes: Vec<u8>) -> CleanSource
         ensures { result ≡ bytes.items }
     {
         CleanSource { bytes, at: 0 }
     }
 
+    /// The bytes that are still to come.
     fn rest(&self) -> &[u8]
         ensures { result.now ≡ self.now }
     {
@@ -50,7 +51,7 @@ impl Source for CleanSource {
     }
 }
 
-/// Holds the bytes that were written.
+/// Holds the bytes that were written, and never fails. Contracts see it as these bytes.
 #[derive(Debug, Drop)]
 pub struct CleanSink {
     content: Vec<u8>,
@@ -65,6 +66,7 @@ impl Model for CleanSink {
 }
 
 impl CleanSink {
+    /// A sink that holds nothing yet.
     pub fn fresh(alloc: Global) -> CleanSink
         ensures { result ≡ [] }
     {
@@ -73,6 +75,7 @@ impl CleanSink {
         }
     }
 
+    /// The bytes that were written.
     pub fn content(&self) -> &[u8]
         ensures { result.now ≡ self.now }
     {
@@ -91,7 +94,7 @@ impl Sink for CleanSink {
     }
 }
 
-/// Holds the clients' logs, and keeps them.
+/// Holds the clients' logs, keeps them, and never fails. Contracts see it as the list of the logs.
 #[derive(Debug, Drop)]
 pub struct CleanRack {
     logs: [Vec<u8>; 8],
@@ -108,6 +111,7 @@ impl Model for CleanRack {
 }
 
 impl CleanRack {
+    /// A rack whose logs are empty.
     pub fn fresh(alloc: Global) -> CleanRack
         ensures { (client : ℕ) → log_of result client ≡ [] }
     {
@@ -157,7 +161,7 @@ impl LogRack for CleanRack {
         Ok(copy_front(&log[from..], buf))
     }
 
-    ghost keeping_tells = { λ rack client keeps. Prim.search rules };
+    ghost keeping_tells = { λ rack client keeps. refl };
 }
 
 /// Copies as many bytes as both have, and says how many.

@@ -13,7 +13,9 @@ use std::alloc::{AllocError, Global};
 /// Why a log did not take the whole piece.
 #[derive(Clone, Copy, Debug, PartialEq, Eq)]
 pub enum RackFault {
+    /// The append failed, and the rack's count of failures rose.
     Failed,
+    /// No memory was left.
     NoMemory,
 }
 

@@ -10,8 +10,8 @@ use crate::{CleanSink, CleanSource, Failed, Sink, SinkFault, Source};
 use std::alloc::Global;
 use std::marker::Model;
 
-/// Gives the bytes that it was made of, and fails at the calls whose numbers are listed. The calls
-/// count from 1.
+/// Gives the bytes that it was made of, and fails at the calls whose numbers are listed. All its
+/// calls count, from 1 on.
 #[derive(Debug, Drop)]
 pub struct MemSource {
     source: CleanSource,
@@ -27,6 +27,7 @@ impl Model for MemSource {
 }
 
 impl MemSource {
+    /// A source in which these bytes are left, with the numbers of the calls that are to fail.
     pub fn of(bytes: Vec<u8>, fails: Vec<u32>) -> MemSource
         ensures left { result.left ≡ bytes.items }
         ensures calls { result.calls ≡ no_calls fails.items }
@@ -61,7 +62,7 @@ impl Source for MemSource {
 }
 
 /// Holds the bytes that were written, at most `most` of a call, and fails at the calls whose numbers
-/// are listed. The calls count from 1.
+/// are listed. All its calls count, from 1 on, also one that answers `NoMemory`.
 #[derive(Debug, Drop)]
 pub struct MemSink {
     sink: CleanSink,
@@ -81,6 +82,7 @@ impl Model for MemSink {
 }
 
 impl MemSink {
+    /// A sink that holds nothing yet, with the numbers of the calls that are to fail.
     pub fn of(alloc: Global, most: usize, fails: Vec<u32>) -> MemSink
         requires { 1 ≤ most }
         ensures content { result.content ≡ [] }
@@ -94,6 +96,7 @@ impl MemSink {
         }
     }
 
+    /// The bytes that were written.
     pub fn content(&self) -> &[u8]
         ensures { result.now ≡ self.now.content }
     {

@@ -10,7 +10,9 @@ use std::alloc::{AllocError, Global};
 /// Why a sink took nothing.
 #[derive(Clone, Copy, Debug, PartialEq, Eq)]
 pub enum SinkFault {
+    /// The write failed, and the sink's count of failures rose.
     Failed,
+    /// No memory was left.
     NoMemory,
 }
 

@@ -9,7 +9,8 @@ use std::alloc::Global;
 use std::io::{Printer, Read, Write};
 use std::marker::Model;
 
-/// Standard input. It tells nothing, but it gives what its reader gives.
+/// Standard input. It tells nothing, but it gives what its reader gives. Its count of failures
+/// stays at `u64::MAX` once it is there.
 #[derive(Drop)]
 pub struct StdSource<R: Read> {
     reader: R,
@@ -25,6 +26,7 @@ impl<R: Read> Model for StdSource<R> {
 }
 
 impl<R: Read> StdSource<R> {
+    /// The standard input of the process, with no failure yet.
     pub fn fresh<I: Input<Reader = R>>(rt: &I) -> StdSource<R>
         ensures { result.failed ≡ 0 }
     {
@@ -60,7 +62,8 @@ impl<R: Read> Source for StdSource<R> {
 }
 
 /// Standard output, flushed after each piece. It tells nothing, but what it takes goes to its
-/// writer. After a flush that failed, some of the piece may have gone there too.
+/// writer. After a flush that failed, some of the piece may have gone there too. Its count of
+/// failures stays at `u64::MAX` once it is there.
 #[derive(Drop)]
 pub struct StdSink<W: Write> {
     writer: W,
@@ -76,6 +79,7 @@ impl<W: Write> Model for StdSink<W> {
 }
 
 impl<'a, P: Print> StdSink<Printer<'a, P>> {
+    /// The standard output of the process, with no failure yet.
     pub fn fresh(rt: &'a P) -> StdSink<Printer<'a, P>>
         ensures { result.failed ≡ 0 }
     {

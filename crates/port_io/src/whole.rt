@@ -12,8 +12,11 @@ use std::alloc::{AllocError, Global};
 /// Why a source was not read to its end.
 #[derive(Clone, Copy, Debug, PartialEq, Eq)]
 pub enum ReadAllFault {
+    /// A read failed, and the source's count of failures rose.
     Failed,
+    /// A byte beyond the limit was read.
     TooLong,
+    /// No memory was left.
     NoMemory,
 }
 
@@ -28,11 +31,11 @@ impl From<AllocError> for ReadAllFault {
 /// How many bytes one read asks for at most.
 const PIECE: usize = 65536;
 
-/// Reads all that is left in a source, at most `most` bytes.
+/// Reads all that is left in a source, if that is at most `most` bytes.
 ///
 /// `TooLong` comes exactly where a byte beyond `most` was read, and one is read if there is one.
-/// `Failed` comes only where the source's count of failures rose. After a fault the bytes that were
-/// read are lost.
+/// `Failed` comes only where the source's count of failures rose, `NoMemory` at any point. After a
+/// fault the bytes that were read are lost, and the source goes on behind them.
 pub fn read_all<S: Source>(
     alloc: Global,
     source: &mut S,
@@ -71,6 +74,7 @@ fn read_some<S: Source>(source: &mut S, buf: &mut [u8], room: usize) -> Result<u
     source.read(&mut buf[..room])
 }
 
+/// A buffer of this length.
 fn zeros(alloc: Global, len: usize) -> Result<Vec<u8>, AllocError>
     ensures { IfOk result (λ buf. vec_len buf ≡ len) }
 {

@@ -4,7 +4,7 @@ ghost use Rattle.std.specs.Prelude.{◌≡◌, IsUtf8, string_bytes};
 use std::convert::AsStr;
 use std::marker::Model;
 
-/// A text, seen by contracts as its bytes, which are UTF-8.
+/// A text. Contracts see it as its bytes, which are UTF-8.
 #[derive(Debug, Drop)]
 pub struct Word {
     text: String,
@@ -19,12 +19,14 @@ impl Model for Word {
 }
 
 impl Word {
+    /// The word with this text.
     pub fn of(text: String) -> Word
         ensures { result ≡ string_bytes text }
     {
         Word { text }
     }
 
+    /// The text.
     pub fn as_str(&self) -> &str
         ensures value { result.now ≡ self.now }
         ensures utf8 { IsUtf8 self.now }
