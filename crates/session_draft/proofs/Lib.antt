@@ -1,0 +1,3 @@
+pub mod JsonLists
+pub mod AscendingRows
+pub mod BytesAsJson

@@ -1,0 +1,10 @@
+use Rattle.std.proofs.Common.{◌≡◌, map, drop}
+use Rattle.serde_json.specs.View.{view}
+use Rattle.session_draft.specs.Json.{each}
+use Rattle.session_draft.specs.OpText.{need_of}
+use Rattle.session_draft.proofs.JsonLists.{with_front}
+use Rattle.session_draft.proofs.operation.each_need.Given as goal
+
+-- what is left makes the whole
+abbrev pub invariant-loop-value : goal.invariant-loop-value
+invariant-loop-value l = with_front l.needs.items (each need_of (map view (drop l.value-index l.list))) ≡ each need_of (map view l.list)

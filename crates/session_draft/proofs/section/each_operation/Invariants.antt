@@ -1,0 +1,11 @@
+use Rattle.std.proofs.Common.{◌≡◌, map, drop}
+use Rattle.serde_json.specs.View.{view}
+use Rattle.session_draft.specs.Json.{each}
+use Rattle.session_draft.specs.OpText.{op_of}
+use Rattle.session_draft.specs.Written.{written_op}
+use Rattle.session_draft.proofs.JsonLists.{with_front}
+use Rattle.session_draft.proofs.section.each_operation.Given as goal
+
+-- what is left makes the whole
+abbrev pub invariant-loop-value : goal.invariant-loop-value
+invariant-loop-value l = with_front (map written_op l.ops.items) (each op_of (map view (drop l.value-index l.list))) ≡ each op_of (map view l.list)

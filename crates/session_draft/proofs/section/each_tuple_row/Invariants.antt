@@ -1,0 +1,10 @@
+use Rattle.std.proofs.Common.{◌≡◌, map, drop}
+use Rattle.serde_json.specs.View.{view}
+use Rattle.session_draft.specs.Json.{each}
+use Rattle.session_draft.specs.Sections.{tuple_row_of}
+use Rattle.session_draft.proofs.JsonLists.{with_front}
+use Rattle.session_draft.proofs.section.each_tuple_row.Given as goal
+
+-- what is left makes the whole
+abbrev pub invariant-loop-value : goal.invariant-loop-value
+invariant-loop-value l = with_front l.rows.items (each tuple_row_of (map view (drop l.value-index l.list))) ≡ each tuple_row_of (map view l.list)
