@@ -1,0 +1,58 @@
+-- A first session that was tested can be run.
+use Rattle.std.proofs.Common.{◌≡◌, ℕ, ◌≤◌, Bool, true, false, ◌&&◌, IsTrue, List, [], ◌∷◌, map, length, nat_le, sum_by, Option, Some, None, is_some, is_none, IsSome, refl, sym, ap, ◌∙◌, arith}
+use Rattle.std.specs.FinMap.{get, entries, is_sorted}
+use Rattle.std.specs.List.{list_all, flat_map, AllByRecursion}
+use Rattle.std.proofs.lemmas.Bool.Decides.{nat_tests}
+use Rattle.std.proofs.lemmas.List.{length-map}
+use Rattle.std.proofs.lemmas.List.Concat.{length-flat_map}
+use Rattle.txn_model.specs.ScriptCheck.{script_fault}
+use Rattle.txn_model.specs.Tuples.{tuple_cmp}
+use Rattle.txn_model.proofs.SortedRows.{rows_are_entries}
+use Rattle.txn_model.proofs.TupleOrder.{tuple_cmp_total}
+use Rattle.session_draft.specs.Written.{WrittenItem, Written}
+use Rattle.session_text.specs.First.{First, plain_script, first_of, can_run, can_run_all, is_plain}
+use Rattle.session_text.specs.Limits.{sizes_fit, tuples_fit, layout_fits, tries_fit, clients_fit, items_fit, ops_fit, needs_fit, is_within_limits}
+use Rattle.session_text.specs.Runnable.{IsRunnable}
+
+left : (a b : Bool) → IsTrue (a && b) → IsTrue a
+left true b h = refl
+left false b h = h
+
+right : (a b : Bool) → IsTrue (a && b) → IsTrue b
+right true b h = h
+right false b h = cc
+
+-- what a test shows of each item
+all_of_tests : {X : Type 0} (p : X → Bool) (P : X → Type 0) → ((x : X) → IsTrue (p x) → P x) → (xs : List X) → IsTrue (list_all p xs) → AllByRecursion P xs
+all_of_tests p P shows [] h = tt
+all_of_tests p P shows (x ∷ xs) h = (shows x (left _ _ h), all_of_tests p P shows xs (right _ _ h))
+
+none : {X : Type 0} (o : Option X) → IsTrue (is_none o) → o ≡ None
+none None h = refl
+none (Some x) h = cc
+
+scripts_of_clients : (clients : List (List WrittenItem)) → length (flat_map (map plain_script) clients) ≡ sum_by length clients
+scripts_of_clients clients = length-flat_map (map plain_script) clients ∙ simp length-map
+
+within : (w : Written) → IsTrue (is_plain w) → IsTrue (is_within_limits w)
+within w h = left _ _ (left _ _ (left _ _ (left _ _ h)))
+
+few : (n most : ℕ) → IsTrue (nat_le n most) → n ≤ most
+few n most h = grind (arith, nat_tests)
+
+-- the tests of a first session, on what is written and on the session
+pub runnable : (w : Written) (session : First) → IsTrue (is_plain w) → IsTrue (is_sorted tuple_cmp w.tuples) → session ≡ first_of w → IsTrue (can_run_all session) → IsRunnable session
+runnable w session plain ascending built runs = record {
+  fit = all_of_tests (can_run session.tuples) (λ script. script_fault script ≡ None) (λ script h. none _ (left _ _ h)) session.scripts runs;
+  there = all_of_tests (can_run session.tuples) (λ script. AllByRecursion (λ op. IsSome (get session.tuples op.tuple)) script)
+      (λ script h. all_of_tests (λ op. is_some (get session.tuples op.tuple)) (λ op. IsSome (get session.tuples op.tuple)) (λ op k. k) script (right _ _ h)) session.scripts runs;
+  few_scripts =
+      let items : length session.scripts ≡ sum_by length w.clients = ap (λ s. length s.scripts) built ∙ scripts_of_clients w.clients in
+      let fits = few _ 4096 (right _ (items_fit w) (left _ (ops_fit w) (left _ (needs_fit w) (within w plain)))) in
+      omega (arith, items, fits);
+  few_tuples =
+      let rows : length (entries session.tuples) ≡ length w.tuples = ap (λ s. length (entries s.tuples)) built ∙ ap length (sym (rows_are_entries tuple_cmp_total w.tuples ascending)) in
+      let front = left (sizes_fit w.shape && tuples_fit w) (layout_fits w) (left _ (tries_fit w) (left _ (clients_fit w) (left _ (items_fit w) (left _ (ops_fit w) (left _ (needs_fit w) (within w plain)))))) in
+      let fits = few _ 65536 (right (sizes_fit w.shape) (tuples_fit w) front) in
+      omega (arith, rows, fits);
+}
