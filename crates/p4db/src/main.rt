@@ -1,0 +1,47 @@
+//! The program `p4db`: hands its words and the process's streams to the library's top call.
+#![tactic(auto)]
+
+use p4db_top::{Note, command};
+use port_io::{CleanRack, StdSink, StdSource, Word};
+use std::io::ErrorKind;
+use std::process::ExitCode;
+use std::rt::Env;
+use std::{env, io};
+
+/// The words behind the program's name. Words that aren't UTF-8 are no command.
+fn words_of<R: Env + AllocGlobal>(rt: &R) -> Result<Vec<Word>, Note> {
+    let mut words = Vec::new(rt.alloc());
+    for text in env::args(rt).map_err(note_of)?.skip(1) {
+        words.push(Word::of(text)).map_err(|_| Note::NoMemory)?;
+    }
+    Ok(words)
+}
+
+fn note_of(error: io::Error) -> Note {
+    match error.kind() {
+        ErrorKind::OutOfMemory => Note::NoMemory,
+        _ => Note::Usage,
+    }
+}
+
+/// What the library answers to the words and to standard input.
+fn answer(rt: &HostRuntime) -> Note {
+    match words_of(rt) {
+        Ok(words) => {
+            let mut source = StdSource::fresh(rt);
+            let mut sink = StdSink::fresh(rt);
+            let logs = CleanRack::fresh(rt.alloc());
+            command(rt.alloc(), words.as_slice(), &mut source, &mut sink, logs).note
+        }
+        Err(note) => note,
+    }
+}
+
+fn main(rt: HostRuntime) -> ExitCode {
+    let note = answer(&rt);
+    if let Some(line) = note.line() {
+        // Where the line can't be written, the status still tells.
+        let _ = rt.eprint(line);
+    }
+    ExitCode::from(note.status())
+}

@@ -1,0 +1,4 @@
+pub mod FirstRunLaws
+pub mod Rest
+pub mod Words
+pub mod Statuses

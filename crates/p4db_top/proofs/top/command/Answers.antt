@@ -1,0 +1,13 @@
+use Rattle.std.proofs.Common.{◌≡◌, ◌∙◌, sym, ap, arith}
+use Rattle.p4db_top.specs.Status.{status_of}
+use Rattle.p4db_top.proofs.Statuses.{headline_from_status}
+use Rattle.p4db_top.proofs.top.command.Goals.{then-is_run, else-is_run}
+use Rattle.p4db_top.proofs.top.command.Goals as goal
+
+pub returns-clause-headline : goal.returns-clause-headline
+returns-clause-headline g c zero =
+    let status = sym c.status.ensures ∙ zero in
+    elim c.if-is_run.branch [
+      | then-is_run w ↦ rw (w.source-is, w.sink-is) (headline_from_status w.run-note.result _ _ _ _ (sym (ap status_of w.note-is) ∙ status) w.run-note.ensures.explained)
+      | else-is_run w ↦ absurd (omega (arith, ap status_of w.note-is, status))
+    ]

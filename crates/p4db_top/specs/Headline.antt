@@ -1,0 +1,81 @@
+-- The headline, and what each other answer of the top call is owed to.
+use Rattle.std.specs.Prelude.{◌≡◌, ◌⊎◌, ℕ, List, [], ◌∷◌, codes, Option, Ok, Err}
+use Rattle.std.specs.Io.KnownBytes.{Appends}
+use Rattle.port_io.specs.ReadAll.{TakesAll, TakesWithin, TakesBeyond}
+use Rattle.port_io.specs.WriteAll.{AppendsFront}
+use Rattle.report_text.specs.ReportText.{report}
+use Rattle.session_text.specs.First.{First, first_session}
+use Rattle.session_text.specs.declared.first.FirstFault.{FirstFault}
+use Rattle.session_text.specs.declared.first.FirstFault.TheVariants as fault
+use Rattle.p4db_top.specs.declared.note.Note.{Note}
+use Rattle.p4db_top.specs.declared.note.Note.TheVariants.{Done, Usage, ReadFault, InputTooLong, WriteFault, Session, NotBuilt, NoMemory}
+use Rattle.p4db_top.specs.declared.note.SessionFault.TheVariants.{NotJson}
+use Rattle.p4db_top.specs.FirstRun.{first_run, script_at, names_from}
+use Rattle.p4db_top.specs.Ran.{Ran, report_of}
+use Rattle.p4db_top.specs.Serial.{IsSerial, IsOnceEach}
+
+-- the longest input that is read, in bytes
+abbrev pub most_input : ℕ
+most_input = 16777216
+
+-- the words of the one command
+abbrev pub IsRun : List (List ℕ) → Type 0
+IsRun words = words ≡ codes "run" ∷ []
+
+-- the source was read to its end, and all that was left in it is the text of this session
+pub record Reads (left rest : Option (List ℕ)) (session : First) : Type 0 where
+  pub bytes : List ℕ
+  pub taken : TakesAll most_input left rest bytes
+  pub is : first_session bytes ≡ Ok session
+
+-- the run of a session
+abbrev pub run_of : First → Ran
+run_of session = first_run session.tuples session.scripts
+
+-- the whole output for a session
+abbrev pub output_of : First → List ℕ
+output_of session = report (report_of (run_of session))
+
+-- What stands behind status 0: which session was read, what was printed of its run, and that the run's transactions,
+-- each once and each client's in its order, sorted by printed stamp, are a serial run that gives exactly the printed
+-- replies and final tuples.
+pub record Headline (left rest before after : Option (List ℕ)) : Type 0 where
+  pub session : First
+  pub reads : Reads left rest session
+  pub printed : Appends before after (output_of session)
+  pub serial : IsSerial (script_at session.scripts) session.tuples (run_of session)
+  pub once_each : IsOnceEach (names_from 1 session.scripts) (run_of session)
+
+-- all that was left was read, and it is refused as the text of a session, for this cause
+pub record Refuses (left rest : Option (List ℕ)) (fault : FirstFault) : Type 0 where
+  pub bytes : List ℕ
+  pub taken : TakesAll most_input left rest bytes
+  pub is : first_session bytes ≡ Err fault
+
+-- a session was read, and a front of its output was written
+pub record WritesFront (left rest before after : Option (List ℕ)) : Type 0 where
+  pub session : First
+  pub reads : Reads left rest session
+  pub printed : AppendsFront before after (output_of session)
+
+-- why no session was read, and what was taken of the source
+abbrev pub StopsReading : Note → (left rest : Option (List ℕ)) → Type 0
+StopsReading ReadFault left rest = TakesWithin most_input left rest
+StopsReading InputTooLong left rest = TakesBeyond most_input left rest
+StopsReading (Session NotJson) left rest = Refuses left rest fault.NotJson
+StopsReading NotBuilt left rest = Refuses left rest fault.NotBuilt
+StopsReading NoMemory left rest = TakesWithin most_input left rest
+StopsReading Done left rest = ⊥
+StopsReading Usage left rest = ⊥
+StopsReading WriteFault left rest = ⊥
+
+-- what stands behind each note of the command `run`, where the sink's bytes are these before and after
+abbrev pub Explains : Note → (left rest before after : Option (List ℕ)) → Type 0
+Explains Done left rest before after = Headline left rest before after
+Explains Usage left rest before after = ⊥
+Explains ReadFault left rest before after = TakesWithin most_input left rest × (after ≡ before)
+Explains InputTooLong left rest before after = TakesBeyond most_input left rest × (after ≡ before)
+Explains WriteFault left rest before after = WritesFront left rest before after
+Explains (Session NotJson) left rest before after = Refuses left rest fault.NotJson × (after ≡ before)
+Explains NotBuilt left rest before after = Refuses left rest fault.NotBuilt × (after ≡ before)
+Explains NoMemory left rest before after = (TakesWithin most_input left rest × (after ≡ before)) ⊎ WritesFront left rest before after

@@ -1,0 +1,7 @@
+pub mod Ran
+pub mod Serial
+pub mod FirstRun
+pub mod Runnable
+pub mod FinishedRun
+pub mod Status
+pub mod Headline

@@ -1,0 +1,15 @@
+//! The program's top call: words and the bytes of a source in, a report to a sink out.
+//!
+//! `command` carries the headline theorem. It knows no file and no terminal: sources, sinks and racks
+//! are handed in.
+#![tactic(auto)]
+
+mod first_run;
+mod note;
+mod top;
+
+pub use note::{Note, SessionFault};
+pub use top::{Ended, command};
+
+#[cfg(test)]
+mod tests;

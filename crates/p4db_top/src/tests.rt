@@ -1,0 +1,71 @@
+use super::*;
+use port_io::{CleanRack, CleanSink, CleanSource, MemSink, MemSource, Word};
+use std::alloc::{AllocError, Global};
+use std::test::Fail;
+
+const SESSION: &str =
+    r#"{"shape":{"stages":2,"arrays":1,"cells":2,"split":1,"hosts":2},"tuples":[[0,10],[1,20],[2,30],[3,40],[4,50]],"layout":[],"tries":2,"clients":[[[["add",2,5,[]]]]],"schedule":""}"#;
+
+const REPORT: &str =
+    "replies 1\nc0 1 cold 0.1 30>35\nhistory 1\n0.1 c0 1\ntuples 5\nt0 10\nt1 20\nt2 35\nt3 40\nt4 50\nschedule c0 c0 c0\n";
+
+fn words(alloc: Global, texts: &[&str]) -> Result<Vec<Word>, AllocError> {
+    let mut words = Vec::new(alloc);
+    for text in texts {
+        words.push(Word::of(String::from_str(alloc, text)?))?;
+    }
+    Ok(words)
+}
+
+fn bytes(alloc: Global, text: &str) -> Result<Vec<u8>, AllocError> {
+    Vec::from_slice(alloc, text.as_bytes())
+}
+
+#[test]
+fn texts_get_these_answers(rt: HostRuntime) -> Result<(), Fail> {
+    let cases = [
+        (["run"].as_slice(), SESSION, Note::Done, REPORT),
+        (
+            ["run"].as_slice(),
+            "",
+            Note::Session(SessionFault::NotJson),
+            "",
+        ),
+        (["run"].as_slice(), "1", Note::NotBuilt, ""),
+        (["run", "5"].as_slice(), SESSION, Note::Usage, ""),
+        (["help"].as_slice(), SESSION, Note::Usage, ""),
+        ([].as_slice(), SESSION, Note::Usage, ""),
+    ];
+    for (texts, text, note, printed) in cases {
+        let alloc = rt.alloc();
+        let mut source = CleanSource::of(bytes(alloc, text)?);
+        let mut sink = CleanSink::fresh(alloc);
+        let words = words(alloc, texts)?;
+        let rack = CleanRack::fresh(alloc);
+        let ended = command(alloc, words.as_slice(), &mut source, &mut sink, rack);
+        assert_eq!(rt; ended.note, note);
+        assert_eq!(rt; ended.status, note.status());
+        assert_eq!(rt; sink.content(), printed.as_bytes());
+    }
+    Ok(())
+}
+
+#[test]
+fn faults_of_streams_are_told(rt: HostRuntime) -> Result<(), Fail> {
+    let alloc = rt.alloc();
+    let words = words(alloc, &["run"])?;
+    let mut failing = MemSource::of(bytes(alloc, SESSION)?, vec![in alloc; 1]?);
+    let mut sink = CleanSink::fresh(alloc);
+    let rack = CleanRack::fresh(alloc);
+    let ended = command(alloc, words.as_slice(), &mut failing, &mut sink, rack);
+    assert_eq!(rt; ended.note, Note::ReadFault);
+    assert_eq!(rt; sink.content(), b"".as_slice());
+
+    let mut source = CleanSource::of(bytes(alloc, SESSION)?);
+    let mut slow = MemSink::of(alloc, 10, vec![in alloc; 2]?);
+    let rack = CleanRack::fresh(alloc);
+    let ended = command(alloc, words.as_slice(), &mut source, &mut slow, rack);
+    assert_eq!(rt; ended.note, Note::WriteFault);
+    assert_eq!(rt; slow.content(), b"replies 1\n".as_slice());
+    Ok(())
+}

@@ -1,0 +1,140 @@
+//! The top call.
+
+ghost use Rattle.std.specs.Prelude.{◌≡◌, ◌≢◌, ◌≤◌, ℕ, List, ◌↔◌, ◌⊎◌, [], ◌∷◌, Some, Ok, Err, codes, length, IsTrue, IfOk, IfErr, string_bytes};
+ghost use Rattle.port_io.specs.Cause.{Rose, HasCause};
+ghost use Rattle.session_text.specs.First.{First, first_session, first_view};
+ghost use Rattle.session_text.specs.Runnable.{IsRunnable};
+ghost use Rattle.p4db_top.specs.Headline.{most_input, IsRun, Reads, Headline, StopsReading, Explains, output_of};
+ghost use Rattle.p4db_top.specs.Status.{status_of};
+
+use crate::first_run::FinishedRun;
+use crate::note::{Note, SessionFault};
+use port_io::{LogRack, ReadAllFault, Sink, SinkFault, Source, Word, read_all, write_all};
+use report_text::report_text;
+use session_text::{FirstFault, FirstSession, read_first};
+use std::alloc::Global;
+use txn_model::NoMemory;
+
+/// The longest input that is read, in bytes.
+const MOST_INPUT: usize = 16_777_216;
+
+/// How a call of the program ended, and the logs that it was given.
+#[derive(Debug, Drop)]
+pub struct Ended<L> {
+    pub status: u8,
+    pub note: Note,
+    pub logs: L,
+}
+
+/// Whether the words are the command `run`.
+fn is_run(words: &[Word]) -> bool
+    ensures { IsTrue result ↔ IsRun words.now }
+{
+    match words {
+        [word] => word.as_str() == "run",
+        _ => false,
+    }
+}
+
+/// Reads the session that is all of the source's bytes.
+fn session_of<S: Source>(alloc: Global, source: &mut S) -> Result<FirstSession, Note>
+    ensures ok { IfOk result (λ s. Reads (S.left source.old) (S.left source.new) (first_view s)) }
+    ensures sound { IfOk result (λ s. IsRunnable (first_view s)) }
+    ensures err { IfErr result (λ note. StopsReading note (S.left source.old) (S.left source.new)) }
+    ensures cause { HasCause (S.faults source.old) (S.faults source.new) (result ≡ Err Note.ReadFault) }
+{
+    let bytes = match read_all(alloc, source, MOST_INPUT) {
+        Ok(bytes) => bytes,
+        Err(ReadAllFault::Failed) => return Err(Note::ReadFault),
+        Err(ReadAllFault::TooLong) => return Err(Note::InputTooLong),
+        Err(ReadAllFault::NoMemory) => return Err(Note::NoMemory),
+    };
+    match read_first(alloc, bytes.as_slice()) {
+        Ok(session) => Ok(session),
+        Err(FirstFault::NotJson) => Err(Note::Session(SessionFault::NotJson)),
+        Err(FirstFault::NotBuilt) => Err(Note::NotBuilt),
+        Err(FirstFault::NoMemory) => Err(Note::NoMemory),
+    }
+}
+
+/// The whole output for a session.
+fn text_of(alloc: Global, session: FirstSession) -> Result<String, NoMemory>
+    requires { IsRunnable (first_view session) }
+    ensures { IfOk result (λ text. string_bytes text ≡ output_of (first_view session)) }
+{
+    let run = FinishedRun::of(alloc, session.tuples, session.scripts.as_slice())?;
+    report_text(
+        alloc,
+        run.items.as_slice(),
+        run.history.as_slice(),
+        run.tuples.rows(),
+        run.trace.as_slice(),
+    )
+}
+
+/// The command `run`: reads a session, runs it, and prints its report.
+fn run<S: Source, K: Sink>(alloc: Global, source: &mut S, sink: &mut K) -> Note
+    ensures explained { Explains result (S.left source.old) (S.left source.new) (K.content sink.old) (K.content sink.new) }
+    ensures read_cause { HasCause (S.faults source.old) (S.faults source.new) (result ≡ Note.ReadFault) }
+    ensures write_cause { HasCause (K.faults sink.old) (K.faults sink.new) (result ≡ Note.WriteFault) }
+{
+    let session = match session_of(alloc, source) {
+        Ok(session) => session,
+        Err(note) => return note,
+    };
+    let Ok(text) = text_of(alloc, session) else {
+        return Note::NoMemory;
+    };
+    match write_all(alloc, sink, text.as_bytes()) {
+        Ok(()) => Note::Done,
+        Err(SinkFault::Failed) => Note::WriteFault,
+        Err(SinkFault::NoMemory) => Note::NoMemory,
+    }
+}
+
+/// Does what the words say, and tells how it ended. The one command is `run`: it reads a session from
+/// the source, runs it and writes its report to the sink, in one piece.
+///
+/// Status 0 says that the headline holds. The other statuses: 2 `Usage` exactly where the words are no
+/// command; 3 `ReadFault` only where the source's count of failures rose, and `InputTooLong` exactly
+/// where a byte beyond 16,777,216 was read; 4 `WriteFault` only where the sink's count rose; 5 and 10
+/// exactly by the bytes, after the source was read to its end; 9 where memory ran out. A status other
+/// than 0, 4 and 9 leaves the sink as it was; after 4 and 9 a front of the output stands.
+pub fn command<S: Source, K: Sink, L: LogRack + Send>(
+    alloc: Global,
+    words: &[Word],
+    source: &mut S,
+    sink: &mut K,
+    logs: L,
+) -> Ended<L>
+    ensures status { result.status ≡ status_of result.note }
+    ensures headline { result.status ≡ 0 → Headline (S.left source.old) (S.left source.new) (K.content sink.old) (K.content sink.new) }
+
+    // The words decide between the usage fault, which touches nothing, and the run.
+    ensures usage { (result.note ≡ Note.Usage) ↔ (IsRun words.now → ⊥) }
+    ensures untouched { (IsRun words.now → ⊥) → (source.new ≡ source.old) × (sink.new ≡ sink.old) }
+    ensures explained { IsRun words.now
+        → Explains result.note (S.left source.old) (S.left source.new) (K.content sink.old) (K.content sink.new) }
+
+    // Each failure has its cause.
+    ensures read_cause { HasCause (S.faults source.old) (S.faults source.new) (result.note ≡ Note.ReadFault) }
+    ensures write_cause { HasCause (K.faults sink.old) (K.faults sink.new) (result.note ≡ Note.WriteFault) }
+
+    // A session within the limit is run, unless a call failed or memory ran out.
+    ensures complete { (bytes : List ℕ) (session : First) → IsRun words.now → S.left source.old ≡ Some bytes
+        → length bytes ≤ most_input → first_session bytes ≡ Ok session
+        → (Rose (S.faults source.old) (S.faults source.new) → ⊥) → (Rose (K.faults sink.old) (K.faults sink.new) → ⊥)
+        → (result.note ≡ Note.Done) ⊎ (result.note ≡ Note.NoMemory) }
+    ensures logs { result.logs ≡ logs }
+{
+    let note = if is_run(words) {
+        run(alloc, source, sink)
+    } else {
+        Note::Usage
+    };
+    Ended {
+        status: note.status(),
+        note,
+        logs,
+    }
+}
