@@ -1,0 +1,4 @@
+pub mod Plan
+pub mod Items
+pub mod PlanOf
+pub mod Sound

@@ -1,0 +1,4 @@
+pub mod Shape
+pub mod Layout
+pub mod Index
+pub mod Late

@@ -1,0 +1,2 @@
+pub mod OpSet
+pub mod Parts

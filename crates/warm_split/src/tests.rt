@@ -1,0 +1,91 @@
+ghost use Rattle.std.specs.Prelude.{◌≡◌, None};
+ghost use Rattle.txn_model.specs.ScriptCheck.{script_fault};
+
+use super::*;
+use stage_layout::{Layout, LayoutRow};
+use std::alloc::Global;
+use std::test::Fail;
+use txn_model::{Act, Need, Needs, NoMemory, Op, Place, Script, TupleId, Which};
+
+fn add(tuple: u32, needs: Needs) -> Op {
+    Op {
+        tuple: TupleId(tuple),
+        act: Act::Add { base: 1 },
+        needs,
+    }
+}
+
+fn need(from: u8) -> Need {
+    Need {
+        from,
+        which: Which::Old,
+    }
+}
+
+/// Tuples 0 and 1 are hot.
+fn layout(alloc: Global) -> Result<Layout, NoMemory> {
+    let row = |tuple: u32| LayoutRow {
+        tuple: TupleId(tuple),
+        place: Place {
+            stage: 0,
+            array: 0,
+            cell: tuple as u16,
+        },
+    };
+    Layout::of(alloc, vec![in alloc; row(0), row(1)]?)
+}
+
+fn parts(before: u32, hot: u32, after: u32) -> Result<Parts, BadTurn> {
+    Ok(Parts {
+        before: OpSet(before),
+        hot: OpSet(hot),
+        after: OpSet(after),
+    })
+}
+
+#[test]
+fn scripts_have_these_parts(rt: HostRuntime) -> Result<(), Fail> {
+    let alloc = rt.alloc();
+    let layout = layout(alloc)?;
+    let none = Needs::Zero;
+    let cases = [
+        // The third operation needs a hot one by its second need; the fourth needs the third.
+        (
+            [
+                add(7, none),
+                add(0, none),
+                add(8, Needs::Two(need(0), need(1))),
+                add(9, Needs::One(need(2))),
+            ],
+            parts(0b0001, 0b0010, 0b1100),
+        ),
+        // A hot operation may need a cold one that isn't late.
+        (
+            [
+                add(7, none),
+                add(8, Needs::One(need(0))),
+                add(0, Needs::One(need(1))),
+                add(1, Needs::One(need(2))),
+            ],
+            parts(0b0011, 0b1100, 0),
+        ),
+        // It may not need a late one.
+        (
+            [
+                add(0, none),
+                add(7, Needs::One(need(0))),
+                add(8, none),
+                add(1, Needs::Two(need(2), need(1))),
+            ],
+            Err(BadTurn(3)),
+        ),
+    ];
+    for (ops, want) in cases {
+        let script = Script::of(Vec::from_slice(alloc, ops.as_slice())?);
+        if script.check().is_ok() {
+            assert_eq!(rt; split(&script, &layout), want);
+        }
+        assert_eq!(rt; script.check(), Ok(()));
+    }
+    Ok(())
+}
