@@ -1,0 +1,27 @@
+//! Packets: what they are, their text, and how it is read and written.
+#![tactic(auto)]
+
+mod decode;
+mod encode;
+mod fault;
+mod laws;
+mod length;
+mod limits;
+mod packet;
+mod reader;
+mod record;
+mod writer;
+
+pub use decode::{decode_into, read_packet};
+pub use encode::encode_into;
+pub use fault::PacketFault;
+pub use laws::{replays_in_turn, texts_differ};
+pub use length::packet_len;
+pub use limits::{
+    ARRAYS, BOTH_HALVES, CELLS, CLIENTS, MOST_NEEDS, MOST_PACKET_OPS, MOST_PASSES, PACKET_MARK,
+    STAGES, VERSION,
+};
+pub use packet::{Packet, PacketOp, PacketOps};
+pub use reader::Reader;
+pub use record::{Intent, Intents, LogView, Outcome, Outcomes};
+pub use writer::{push_bytes, push_i64, push_u16, push_u32, push_u64};
