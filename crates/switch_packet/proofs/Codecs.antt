@@ -140,8 +140,8 @@ done_codec {X} made IsValid valid only = record {
   some = made;
   some_valid = valid;
   takes = λ c d x fits e.
-    let made_pair : X × Cursor = (made, c) in
-    subst (λ (p : X × Cursor). Takes c p.1 [] × IsValid p.0) (ok_is made_pair (x, d) e) (record { parts = refl; at = omega arith }, valid);
+      let made_pair : X × Cursor = (made, c) in
+      subst (λ (p : X × Cursor). Takes c p.1 [] × IsValid p.0) (ok_is made_pair (x, d) e) (record { parts = refl; at = omega arith }, valid);
   again = λ x at rest v. rw (only x v, add-zero) refl;
   short = λ c fits e. absurd cc;
   bad = λ c place fits e. absurd cc;
@@ -162,11 +162,13 @@ module _ {A Y : Type 0} (textA : A → List ℕ) (ValidA : A → Type 0) (readA 
       let mid = step.0.1 in
       let t = first.takes c mid a fits step.1 in
       let u = (rest a t.1).takes mid d y (IsBytes-right (textA a) mid.left (subst IsBytes t.0.parts fits)) step.2 in
-      let j = joins a y t.1 u.1 in
-      (record {
-        parts = t.0.parts ∙ ap (λ (l : List ℕ). textA a ++ l) u.0.parts ∙ sym (append_assoc (textA a) (textR a y) d.left) ∙ ap (λ (l : List ℕ). l ++ d.left) (sym j.1);
-        at = omega (arith, u.0.at, t.0.at, ap length j.1, length-append (textA a) (textR a y));
-      }, j.0)
+      let j = joins a y t.1 u.1 in (
+        record {
+          parts = t.0.parts ∙ ap (λ (l : List ℕ). textA a ++ l) u.0.parts ∙ sym (append_assoc (textA a) (textR a y) d.left) ∙ ap (λ (l : List ℕ). l ++ d.left) (sym j.1);
+          at = omega (arith, u.0.at, t.0.at, ap length j.1, length-append (textA a) (textR a y));
+        },
+        j.0,
+      )
 
   both_again : (y : Y) (at : ℕ) (more : List ℕ) → IsValid y → both (cursor at (text y ++ more)) ≡ Ok (y, cursor (at + length (text y)) more)
   both_again y at more v =
@@ -204,41 +206,47 @@ module _ {A Y : Type 0} (textA : A → List ℕ) (ValidA : A → Type 0) (readA 
       elim (bind_err (readA c) (λ a. readR a.0 a.1) Short e) [
         | inl failed ↦ first_front c.left (first.short c fits failed)
         | inr step ↦
-          let a = step.0.0 in
-          let mid = step.0.1 in
-          let t = first.takes c mid a fits step.1 in
-          let f = (rest a t.1).short mid (IsBytes-right (textA a) mid.left (subst IsBytes t.0.parts fits)) step.2 in
-          rw t.0.parts (rest_front a mid.left t.1 f)
+            let a = step.0.0 in
+            let mid = step.0.1 in
+            let t = first.takes c mid a fits step.1 in
+            let f = (rest a t.1).short mid (IsBytes-right (textA a) mid.left (subst IsBytes t.0.parts fits)) step.2 in
+            rw t.0.parts (rest_front a mid.left t.1 f)
       ]
 
   both_bad : (c : Cursor) (place : ℕ) → IsBytes c.left → both c ≡ Err (BadByte place) → StopsAt text IsValid both c place
   both_bad c place fits e =
       elim (bind_err (readA c) (λ a. readR a.0 a.1) (BadByte place) e) [
         | inl failed ↦
-          let s = first.bad c place fits failed in
-          record {
-            before = s.before; byte = s.byte; after = s.after; parts = s.parts; at = s.at;
-            front = first_front s.before s.front;
-            always = λ at other. ap (λ (r : Result (A × Cursor) PacketFault). r >>= λ a. readR a.0 a.1) (s.always at other);
-          }
+            let s = first.bad c place fits failed in
+            record {
+              before = s.before;
+              byte = s.byte;
+              after = s.after;
+              parts = s.parts;
+              at = s.at;
+              front = first_front s.before s.front;
+              always = λ at other. ap (λ (r : Result (A × Cursor) PacketFault). r >>= λ a. readR a.0 a.1) (s.always at other);
+            }
         | inr step ↦
-          let a = step.0.0 in
-          let mid = step.0.1 in
-          let t = first.takes c mid a fits step.1 in
-          let s = (rest a t.1).bad mid place (IsBytes-right (textA a) mid.left (subst IsBytes t.0.parts fits)) step.2 in
-          let len = length-append (textA a) s.before in
-          record {
-            before = textA a ++ s.before; byte = s.byte; after = s.after;
-            parts = t.0.parts ∙ ap (λ (l : List ℕ). textA a ++ l) s.parts ∙ sym (append_assoc (textA a) s.before (s.byte ∷ s.after));
-            at = omega (arith, s.at, t.0.at, len);
-            front = rest_front a s.before t.1 s.front;
-            always = λ at other.
-              let behind : at + length (textA a) + length s.before ≡ at + length (textA a ++ s.before) = omega (arith, len) in
-              ap (λ (l : List ℕ). both (cursor at l)) (append_assoc (textA a) s.before (s.byte ∷ other))
-              ∙ ap (λ (r : Result (A × Cursor) PacketFault). r >>= λ a. readR a.0 a.1) (first.again a at (s.before ++ s.byte ∷ other) t.1)
-              ∙ s.always (at + length (textA a)) other
-              ∙ ap (λ (n : ℕ). Err (BadByte n)) behind;
-          }
+            let a = step.0.0 in
+            let mid = step.0.1 in
+            let t = first.takes c mid a fits step.1 in
+            let s = (rest a t.1).bad mid place (IsBytes-right (textA a) mid.left (subst IsBytes t.0.parts fits)) step.2 in
+            let len = length-append (textA a) s.before in
+            record {
+              before = textA a ++ s.before;
+              byte = s.byte;
+              after = s.after;
+              parts = t.0.parts ∙ ap (λ (l : List ℕ). textA a ++ l) s.parts ∙ sym (append_assoc (textA a) s.before (s.byte ∷ s.after));
+              at = omega (arith, s.at, t.0.at, len);
+              front = rest_front a s.before t.1 s.front;
+              always = λ at other.
+                  let behind : at + length (textA a) + length s.before ≡ at + length (textA a ++ s.before) = omega (arith, len) in
+                  ap (λ (l : List ℕ). both (cursor at l)) (append_assoc (textA a) s.before (s.byte ∷ other))
+                  ∙ ap (λ (r : Result (A × Cursor) PacketFault). r >>= λ a. readR a.0 a.1) (first.again a at (s.before ++ s.byte ∷ other) t.1)
+                  ∙ s.always (at + length (textA a)) other
+                  ∙ ap (λ (n : ℕ). Err (BadByte n)) behind;
+            }
       ]
 
   pub bind_codec : IsCodec text IsValid both
@@ -267,7 +275,7 @@ pub recast : {X : Type 0} {text : X → List ℕ} {IsValid : X → Type 0} {read
     → ((x : X) → IsValid' x → IsValid x) → ((x : X) → IsValid x → IsValid' x) → ((x : X) → IsValid x → text x ≡ text' x) → IsCodec text' IsValid' read
 recast {X} {text} {IsValid} {read} text' IsValid' codec to from same =
     let front : (bytes : List ℕ) → IsFront text IsValid bytes → IsFront text' IsValid' bytes
-          = λ bytes f. record { whole = f.whole; valid = from f.whole f.valid; more = f.more; rest = f.rest; parts = sym (same f.whole f.valid) ∙ f.parts } in
+    = λ bytes f. record { whole = f.whole; valid = from f.whole f.valid; more = f.more; rest = f.rest; parts = sym (same f.whole f.valid) ∙ f.parts } in
     record {
       some = codec.some;
       some_valid = from codec.some codec.some_valid;
@@ -314,7 +322,7 @@ module _ {X : Type 0} (text : X → List ℕ) (IsValid : ℕ → X → Type 0) (
   each_codec (suc n) k =
       bind_codec text (IsValid k) (read k) (item k) (λ x ys. flat_map text (tail ys)) (λ x ys. BeginsWith n k x ys) (λ x c. each_at read (k + 1) n c >>= λ xs. Ok (x ∷ xs.0, xs.1))
       (λ x v.
-        recast (λ ys. flat_map text (tail ys)) (BeginsWith n k x)
-        (field_codec (each_codec n (k + 1)) tail (λ ys b. b.1) (λ xs w. done_codec (x ∷ xs) (λ ys. BeginsWith n k x ys × (tail ys ≡ xs)) ((refl, w), refl) (λ ys b. b.0.0 ∙ ap (λ (zs : List X). x ∷ zs) b.1)))
-        (λ ys b. b) (λ ys b. b) (λ ys b. append-nil (flat_map text (tail ys))))
+      recast (λ ys. flat_map text (tail ys)) (BeginsWith n k x)
+      (field_codec (each_codec n (k + 1)) tail (λ ys b. b.1) (λ xs w. done_codec (x ∷ xs) (λ ys. BeginsWith n k x ys × (tail ys ≡ xs)) ((refl, w), refl) (λ ys b. b.0.0 ∙ ap (λ (zs : List X). x ∷ zs) b.1)))
+      (λ ys b. b) (λ ys b. b) (λ ys b. append-nil (flat_map text (tail ys))))
       (flat_map text) (AreValid (suc n) k) (splits_first n k) (joins_first n k)

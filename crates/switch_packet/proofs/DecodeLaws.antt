@@ -27,12 +27,14 @@ module _ (to : PlainPacket) (bytes : List ℕ) (fits : IsBytes bytes) where
 
   pub decoded_short : (r : Result ℕ PacketFault) → Decodes to bytes r (packet_at (start bytes)) → (r ≡ Err Short) ↔ IsFront packet_text IsPacket bytes
   decoded_short (Ok n) read = (λ e. absurd cc, λ f. cc (sym read ∙ short_only packet_text IsPacket packet_at packet_codec bytes fits f))
-  decoded_short (Err g) read =
-      (λ e. short packet_text IsPacket packet_at packet_codec bytes fits (let same : g ≡ Short = cc in rw (← same) read),
-       λ f. let same = sym read ∙ short_only packet_text IsPacket packet_at packet_codec bytes fits f in cc)
+  decoded_short (Err g) read = (
+    λ e. short packet_text IsPacket packet_at packet_codec bytes fits (let same : g ≡ Short = cc in rw (← same) read),
+    λ f. let same = sym read ∙ short_only packet_text IsPacket packet_at packet_codec bytes fits f in cc,
+  )
 
   pub decoded_bad : (r : Result ℕ PacketFault) → Decodes to bytes r (packet_at (start bytes)) → (place : ℕ) → (r ≡ Err (BadByte place)) ↔ IsBadAt packet_text IsPacket bytes place
   decoded_bad (Ok n) read place = (λ e. absurd cc, λ b. cc (sym read ∙ bad_only packet_text IsPacket packet_at packet_codec bytes place fits b))
-  decoded_bad (Err g) read place =
-      (λ e. bad packet_text IsPacket packet_at packet_codec bytes place fits (let same : g ≡ BadByte place = cc in rw (← same) read),
-       λ b. let same = sym read ∙ bad_only packet_text IsPacket packet_at packet_codec bytes place fits b in cc)
+  decoded_bad (Err g) read place = (
+    λ e. bad packet_text IsPacket packet_at packet_codec bytes place fits (let same : g ≡ BadByte place = cc in rw (← same) read),
+    λ b. let same = sym read ∙ bad_only packet_text IsPacket packet_at packet_codec bytes place fits b in cc,
+  )

@@ -94,13 +94,13 @@ module _ {X : Type 0} (text : X → List ℕ) (IsValid : X → Type 0) (read : C
       let whole = text p.0 in
       elim (cases_lt place (length whole)) [
         | inl within ↦
-          let cut : take (place + 1) bytes ≡ take (place + 1) whole = ap (take (place + 1)) t.0.parts ∙ take-append-le (place + 1) whole p.1.left (omega arith) in
-          absurd (b.none (rw cut (cut_begins whole (place + 1) p.0 [] t.1 (sym (append-nil whole)))))
+            let cut : take (place + 1) bytes ≡ take (place + 1) whole = ap (take (place + 1)) t.0.parts ∙ take-append-le (place + 1) whole p.1.left (omega arith) in
+            absurd (b.none (rw cut (cut_begins whole (place + 1) p.0 [] t.1 (sym (append-nil whole)))))
         | inr past ↦
-          let f = b.before in
-          let first : take (length whole) bytes ≡ whole = ap (take (length whole)) t.0.parts ∙ take_at whole p.1.left (length whole) refl in
-          let parts = front_splits bytes whole (length whole) place past first in
-          absurd (not_longer p.0 f.whole (drop (length whole) (take place bytes)) f.more t.1 f.valid (f.parts ∙ ap (λ (l : List ℕ). l ++ f.more) parts ∙ append_assoc whole (drop (length whole) (take place bytes)) f.more) f.rest)
+            let f = b.before in
+            let first : take (length whole) bytes ≡ whole = ap (take (length whole)) t.0.parts ∙ take_at whole p.1.left (length whole) refl in
+            let parts = front_splits bytes whole (length whole) place past first in
+            absurd (not_longer p.0 f.whole (drop (length whole) (take place bytes)) f.more t.1 f.valid (f.parts ∙ ap (λ (l : List ℕ). l ++ f.more) parts ∙ append_assoc whole (drop (length whole) (take place bytes)) f.more) f.rest)
       ]
   bad_by bytes place (Err Short) fits b e =
       let f = codec.short (start bytes) fits e in
@@ -111,18 +111,18 @@ module _ {X : Type 0} (text : X → List ℕ) (IsValid : X → Type 0) (read : C
       let past : take (other + 1) bytes ≡ s.before ++ s.byte ∷ [] = ap (take (other + 1)) s.parts ∙ subst (λ (n : ℕ). take (n + 1) (s.before ++ s.byte ∷ s.after) ≡ s.before ++ s.byte ∷ []) at (take_past s.before s.byte s.after) in
       elim (cases_lt other place) [
         | inl below ↦
-          let f = b.before in
-          let rest = drop (other + 1) (take place bytes) in
-          let parts = front_splits bytes (s.before ++ s.byte ∷ []) (other + 1) place (omega arith) past in
-          absurd (not_stopped other (start bytes) s f.whole (rest ++ f.more) f.valid
+            let f = b.before in
+            let rest = drop (other + 1) (take place bytes) in
+            let parts = front_splits bytes (s.before ++ s.byte ∷ []) (other + 1) place (omega arith) past in
+            absurd (not_stopped other (start bytes) s f.whole (rest ++ f.more) f.valid
             (f.parts ∙ ap (λ (l : List ℕ). l ++ f.more) parts ∙ append_assoc (s.before ++ s.byte ∷ []) rest f.more ∙ append_assoc s.before (s.byte ∷ []) (rest ++ f.more)))
         | inr above ↦
-          elim (cases_lt place other) [
-            | inl before ↦
-              let cut : take (place + 1) bytes ≡ take (place + 1) s.before = ap (take (place + 1)) s.parts ∙ take-append-le (place + 1) s.before (s.byte ∷ s.after) (omega arith) in
-              absurd (b.none (rw cut (cut_begins s.before (place + 1) s.front.whole s.front.more s.front.valid s.front.parts)))
-            | inr after ↦ let same : other ≡ place = omega arith in ap (λ (n : ℕ). Err (BadByte n)) same
-          ]
+            elim (cases_lt place other) [
+              | inl before ↦
+                  let cut : take (place + 1) bytes ≡ take (place + 1) s.before = ap (take (place + 1)) s.parts ∙ take-append-le (place + 1) s.before (s.byte ∷ s.after) (omega arith) in
+                  absurd (b.none (rw cut (cut_begins s.before (place + 1) s.front.whole s.front.more s.front.valid s.front.parts)))
+              | inr after ↦ let same : other ≡ place = omega arith in ap (λ (n : ℕ). Err (BadByte n)) same
+            ]
       ]
 
   pub bad_only : (bytes : List ℕ) (place : ℕ) → IsBytes bytes → IsBadAt text IsValid bytes place → read (start bytes) ≡ Err (BadByte place)

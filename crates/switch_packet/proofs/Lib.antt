@@ -7,3 +7,4 @@ pub mod PacketCodecs
 pub mod Exactness
 pub mod DecodeLaws
 pub mod ReplayLaws
+pub mod LengthLaws

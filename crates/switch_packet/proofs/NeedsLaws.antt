@@ -1,5 +1,6 @@
 -- Needs and their list.
-use Rattle.std.proofs.Common.{◌≡◌, ◌≤◌, List, [], ◌∷◌, length, refl, arith}
+use Rattle.std.proofs.Common.{◌≡◌, ◌≤◌, ◌<◌, List, [], ◌∷◌, length, refl, arith}
+use Rattle.std.specs.List.{AllByRecursion}
 use Rattle.txn_model.specs.Needs.{needs_list}
 use Rattle.txn_model.specs.declared.op.Need.{Need}
 use Rattle.txn_model.specs.declared.op.Needs.{Needs}
@@ -27,3 +28,8 @@ length-needs_list-le (One a) = omega arith
 length-needs_list-le (Two a b) = omega arith
 length-needs_list-le (Three a b c) = omega arith
 length-needs_list-le (Four a b c d) = omega arith
+
+-- operation 0 needs nothing
+pub none_below : (ns : List Need) → AllByRecursion (λ n. n.from < 0) ns → length ns ≤ 0
+none_below [] v = omega arith
+none_below (n ∷ ns) v = absurd (omega (arith, v.0))

@@ -107,7 +107,7 @@ unfolding i64_at
 i64_codec =
     recast i64_text (FitsSigned w64)
     (field_codec u64_codec (λ z. cast_unsigned w64 z) (λ z v. Fits-lt-pow (Fits-of_z {w = w64} {z = z} v)) (λ n v.
-      done_codec (cast_signed w64 n) (λ z. FitsSigned w64 z × (cast_unsigned w64 z ≡ n)) (sfits_to_z {w = w64} {n = n} (Fits-bits 64 tt v), of_z-to_z w64 n v) (λ z h. sym (to_z-of_z w64 z h.0) ∙ ap (cast_signed w64) h.1)))
+    done_codec (cast_signed w64 n) (λ z. FitsSigned w64 z × (cast_unsigned w64 z ≡ n)) (sfits_to_z {w = w64} {n = n} (Fits-bits 64 tt v), of_z-to_z w64 n v) (λ z h. sym (to_z-of_z w64 z h.0) ∙ ap (cast_signed w64) h.1)))
     (λ z v. v) (λ z v. v) (λ z v. append-nil (i64_text z))
 
 -- zeros
@@ -117,7 +117,7 @@ zeros_codec zero = done_codec tt (λ x. Unit {0}) tt (λ x v. refl)
 zeros_codec (suc n) =
     recast (λ x. replicate (suc n) 0) (λ x. Unit {0})
     (field_codec (byte_codec 0 0 (omega arith)) (λ (x : Unit {0}). 0) (λ x v. (omega arith, omega arith)) (λ b v.
-      recast (λ (x : Unit {0}). replicate n 0) (λ x. Unit {0} × (0 ≡ b)) (zeros_codec n) (λ x v. tt) (λ x u. (tt, omega (arith, v.0, v.1))) (λ x u. refl)))
+    recast (λ (x : Unit {0}). replicate n 0) (λ x. Unit {0} × (0 ≡ b)) (zeros_codec n) (λ x v. tt) (λ x u. (tt, omega (arith, v.0, v.1))) (λ x u. refl)))
     (λ x v. tt) (λ x v. tt) (λ x v. refl)
 
 -- cells
@@ -134,9 +134,9 @@ unfolding cell_at
 cell_codec =
     recast (to_be_bytes w16) (λ c. c < CELLS)
     (field_codec (byte_codec 0 15 (omega arith)) (λ c. int.byte_at 1 c) (λ c v. (omega arith, omega arith)) (λ high h.
-     field_codec (byte_codec 0 255 (omega arith)) (λ c. int.byte_at 0 c) (λ c v. (omega arith, omega arith)) (λ low l.
-     let e = high_and_low high low h.1 l.1 in
-     done_codec (from_be_bytes w16 (high ∷ low ∷ [])) (λ c. ((c < CELLS) × (int.byte_at 1 c ≡ high)) × (int.byte_at 0 c ≡ low))
-     ((omega (arith, h.1, l.1), cc), cc)
-     (λ c v. sym (from_be_bytes-to_be_bytes_2 c (omega arith)) ∙ ap (λ (p : ℕ × ℕ). from_be_bytes w16 (p.0 ∷ p.1 ∷ [])) {x = (int.byte_at 1 c, int.byte_at 0 c)} {y = (high, low)} cc))))
+    field_codec (byte_codec 0 255 (omega arith)) (λ c. int.byte_at 0 c) (λ c v. (omega arith, omega arith)) (λ low l.
+    let e = high_and_low high low h.1 l.1 in
+    done_codec (from_be_bytes w16 (high ∷ low ∷ [])) (λ c. ((c < CELLS) × (int.byte_at 1 c ≡ high)) × (int.byte_at 0 c ≡ low))
+    ((omega (arith, h.1, l.1), cc), cc)
+    (λ c v. sym (from_be_bytes-to_be_bytes_2 c (omega arith)) ∙ ap (λ (p : ℕ × ℕ). from_be_bytes w16 (p.0 ∷ p.1 ∷ [])) {x = (int.byte_at 1 c, int.byte_at 0 c)} {y = (high, low)} cc))))
     (λ c v. v) (λ c v. v) (λ c v. refl)

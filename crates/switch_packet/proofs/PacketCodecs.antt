@@ -15,7 +15,8 @@ use Rattle.txn_model.specs.declared.op.Needs.TheVariants.{Zero, One, Two, Three,
 use Rattle.txn_model.specs.declared.op.Which.{Which}
 use Rattle.txn_model.specs.declared.op.Which.TheVariants.{Old, Moved}
 use Rattle.switch_packet.specs.declared.fault.PacketFault.{PacketFault}
-use Rattle.switch_packet.specs.declared.limits.TheConstants.{PACKET_MARK, VERSION, CLIENTS, MOST_PASSES, BOTH_HALVES, MOST_PACKET_OPS, MOST_NEEDS, STAGES, ARRAYS, CELLS}
+use Rattle.switch_packet.specs.declared.format.TheConstants.{PACKET_MARK, VERSION, READ, CHOOSE, OLD, MOVED}
+use Rattle.switch_packet.specs.declared.limits.TheConstants.{CLIENTS, MOST_PASSES, BOTH_HALVES, MOST_PACKET_OPS, MOST_NEEDS, STAGES, ARRAYS, CELLS}
 use Rattle.switch_packet.specs.declared.decode.OpHead.{OpHead}
 use Rattle.switch_packet.specs.declared.decode.PacketHead.{PacketHead}
 use Rattle.switch_packet.specs.declared.packet.PacketOp.{PacketOp}
@@ -26,7 +27,7 @@ use Rattle.switch_packet.specs.Reading.{Cursor, ◌>>=◌, byte_at, i64_at, each
 use Rattle.switch_packet.specs.PacketReading.{cell_at, most_needs, op_head_at, bias_at, act_at, which_of, need_at, needs_of, needs_at, op_at, packet_head_at, packet_at}
 use Rattle.switch_packet.proofs.Codecs.{IsCodec, EachIs, AreValid, byte_codec, field_codec, done_codec, recast, each_codec}
 use Rattle.switch_packet.proofs.NumberCodecs.{u32_codec, i64_codec, zeros_codec, cell_codec}
-use Rattle.switch_packet.proofs.NeedsLaws.{needs_of-needs_list, needs_list-needs_of, length-needs_list-le}
+use Rattle.switch_packet.proofs.NeedsLaws.{needs_of-needs_list, needs_list-needs_of, length-needs_list-le, none_below}
 
 -- ---- the acts
 
@@ -104,20 +105,20 @@ act_codec zero few = recast act_text (ActIs 0) (done_codec Read (ActIs 0) (refl,
 act_codec (suc zero) few =
     recast act_text (ActIs 1)
     (field_codec i64_codec (act_number 0) (λ act v. number_fits 0 (act_numbers act) v.1) (λ base b.
-     done_codec (Put base) (λ act. ActIs 1 act × (act_number 0 act ≡ base)) ((refl, (b, tt)), refl) (λ act v. put_only act base v.0 v.1)))
+    done_codec (Put base) (λ act. ActIs 1 act × (act_number 0 act ≡ base)) ((refl, (b, tt)), refl) (λ act v. put_only act base v.0 v.1)))
     (λ act v. v) (λ act v. v) (λ act v. one_text act v.0)
 act_codec (suc (suc zero)) few =
     recast act_text (ActIs 2)
     (field_codec i64_codec (act_number 0) (λ act v. number_fits 0 (act_numbers act) v.1) (λ base b.
-     done_codec (Add base) (λ act. ActIs 2 act × (act_number 0 act ≡ base)) ((refl, (b, tt)), refl) (λ act v. add_only act base v.0 v.1)))
+    done_codec (Add base) (λ act. ActIs 2 act × (act_number 0 act ≡ base)) ((refl, (b, tt)), refl) (λ act v. add_only act base v.0 v.1)))
     (λ act v. v) (λ act v. v) (λ act v. two_text act v.0)
 act_codec (suc (suc (suc zero))) few =
     recast act_text (ActIs 3)
     (field_codec i64_codec (act_number 0) (λ act v. number_fits 0 (act_numbers act) v.1) (λ limit l.
-     field_codec i64_codec (act_number 1) (λ act v. number_fits 1 (act_numbers act) v.0.1) (λ above a.
-     field_codec i64_codec (act_number 2) (λ act v. number_fits 2 (act_numbers act) v.0.0.1) (λ below b.
-     done_codec (Choose limit above below) (λ act. ((ActIs 3 act × (act_number 0 act ≡ limit)) × (act_number 1 act ≡ above)) × (act_number 2 act ≡ below)) ((((refl, (l, (a, (b, tt)))), refl), refl), refl)
-     (λ act v. choose_only act limit above below v.0.0.0 v.0.0.1 v.0.1 v.1)))))
+    field_codec i64_codec (act_number 1) (λ act v. number_fits 1 (act_numbers act) v.0.1) (λ above a.
+    field_codec i64_codec (act_number 2) (λ act v. number_fits 2 (act_numbers act) v.0.0.1) (λ below b.
+    done_codec (Choose limit above below) (λ act. ((ActIs 3 act × (act_number 0 act ≡ limit)) × (act_number 1 act ≡ above)) × (act_number 2 act ≡ below)) ((((refl, (l, (a, (b, tt)))), refl), refl), refl)
+    (λ act v. choose_only act limit above below v.0.0.0 v.0.0.1 v.0.1 v.1)))))
     (λ act v. v) (λ act v. v) (λ act v. three_text act v.0)
 act_codec (suc (suc (suc (suc k)))) few = absurd (omega arith)
 
@@ -131,7 +132,7 @@ unfolding bias_at
 bias_codec zero =
     recast i64_text (IsBias 0)
     (field_codec (zeros_codec 8) (λ (z : ℤ). tt) (λ z v. tt) (λ u v.
-     done_codec (pos 0) (λ z. IsBias 0 z × (tt ≡ u)) ((zero_fits, λ e. refl), refl) (λ z v. v.0.1 refl)))
+    done_codec (pos 0) (λ z. IsBias 0 z × (tt ≡ u)) ((zero_fits, λ e. refl), refl) (λ z v. v.0.1 refl)))
     (λ z v. v) (λ z v. v) (λ z v. rw (v.1 refl) refl)
 bias_codec (suc act) = recast i64_text (IsBias (suc act)) i64_codec (λ z v. v.0) (λ z v. (v, λ e. absurd (omega arith))) (λ z v. refl)
 
@@ -155,10 +156,10 @@ unfolding need_at
 need_codec k some =
     recast need_text (λ n. n.from < k)
     (field_codec (byte_codec 0 (k - 1) (omega arith)) (λ (n : Need). n.from) (λ n v. (omega arith, omega arith)) (λ from f.
-     field_codec (byte_codec 0 1 (omega arith)) (λ (n : Need). which_byte n.which) (λ n v. (omega arith, which_small n.which)) (λ b s.
-     done_codec (record { from = from; which = which_of b }) (λ n. ((n.from < k) × (n.from ≡ from)) × (which_byte n.which ≡ b))
-     ((omega (arith, f.1), refl), which_back b s.1)
-     (λ n v. rw (← v.0.1, ← which_is n.which b v.1) refl))))
+    field_codec (byte_codec 0 1 (omega arith)) (λ (n : Need). which_byte n.which) (λ n v. (omega arith, which_small n.which)) (λ b s.
+    done_codec (record { from = from; which = which_of b }) (λ n. ((n.from < k) × (n.from ≡ from)) × (which_byte n.which ≡ b))
+    ((omega (arith, f.1), refl), which_back b s.1)
+    (λ n v. rw (← v.0.1, ← which_is n.which b v.1) refl))))
     (λ n v. v) (λ n v. v) (λ n v. refl)
 
 abbrev NeedsAre : ℕ → ℕ → Needs → Type 0
@@ -189,10 +190,10 @@ needs_codec k zero few later =
 needs_codec k (suc count) few later =
     recast needs_text (NeedsAre k (suc count))
     (field_codec (each_codec need_text (λ _ n. n.from < k) (λ _. need_at k) (λ _. need_codec k (later (omega arith))) (suc count) 0) needs_list (λ needs v. (v.0, each_from_all k 0 (needs_list needs) v.1)) (λ ns v.
-     let list = needs_list-needs_of ns (omega (arith, v.0)) in
-     done_codec (needs_of ns) (λ needs. NeedsAre k (suc count) needs × (needs_list needs ≡ ns))
-     (rw list ((v.0, all_from_each k 0 ns v.1), refl))
-     (λ needs w. sym (needs_of-needs_list needs) ∙ ap needs_of w.1)))
+    let list = needs_list-needs_of ns (omega (arith, v.0)) in
+    done_codec (needs_of ns) (λ needs. NeedsAre k (suc count) needs × (needs_list needs ≡ ns))
+    (rw list ((v.0, all_from_each k 0 ns v.1), refl))
+    (λ needs w. sym (needs_of-needs_list needs) ∙ ap needs_of w.1)))
     (λ needs v. v) (λ needs v. v) (λ needs v. append-nil (needs_text needs))
 
 -- ---- operations
@@ -213,16 +214,16 @@ unfolding op_head_at
 op_head_codec passes k some =
     recast op_head_text (IsOpHead passes k)
     (field_codec (byte_codec 1 passes some) (λ (h : OpHead). h.pass) (λ h v. v.pass) (λ pass p.
-     field_codec (byte_codec 0 (STAGES - 1) (omega arith)) (λ (h : OpHead). h.place.stage) (λ h v. let b = v.0.stage in (omega arith, omega arith)) (λ stage s.
-     field_codec (byte_codec 0 (ARRAYS - 1) (omega arith)) (λ (h : OpHead). h.place.array) (λ h v. let b = v.0.0.array in (omega arith, omega arith)) (λ array a.
-     field_codec (byte_codec 0 3 (omega arith)) (λ (h : OpHead). h.act) (λ h v. (omega arith, v.0.0.0.act)) (λ act t.
-     field_codec cell_codec (λ (h : OpHead). h.place.cell) (λ h v. v.0.0.0.0.cell) (λ cell c.
-     field_codec (byte_codec 0 (most_needs act k) (omega arith)) (λ (h : OpHead). h.needs) (λ h v. (omega arith, subst (λ (b : ℕ). h.needs ≤ most_needs b k) v.0.1 v.0.0.0.0.0.needs)) (λ needs n.
-     field_codec (byte_codec 0 0 (omega arith)) (λ (h : OpHead). 0) (λ h v. (omega arith, omega arith)) (λ filler f.
-     done_codec (record { pass = pass; place = record { stage = stage; array = array; cell = cell }; act = act; needs = needs })
-     (λ h. ((((((IsOpHead passes k h × (h.pass ≡ pass)) × (h.place.stage ≡ stage)) × (h.place.array ≡ array)) × (h.act ≡ act)) × (h.place.cell ≡ cell)) × (h.needs ≡ needs)) × (0 ≡ filler))
-     (((((((record { pass = p; stage = omega (arith, s.1); array = omega (arith, a.1); act = t.1; cell = c; needs = n.1 }, refl), refl), refl), refl), refl), refl), omega (arith, f.1))
-     (λ h v. rw (← v.0.0.0.0.0.0.1, ← v.0.0.0.0.0.1, ← v.0.0.0.0.1, ← v.0.0.0.1, ← v.0.0.1, ← v.0.1) refl)))))))))
+    field_codec (byte_codec 0 (STAGES - 1) (omega arith)) (λ (h : OpHead). h.place.stage) (λ h v. let b = v.0.stage in (omega arith, omega arith)) (λ stage s.
+    field_codec (byte_codec 0 (ARRAYS - 1) (omega arith)) (λ (h : OpHead). h.place.array) (λ h v. let b = v.0.0.array in (omega arith, omega arith)) (λ array a.
+    field_codec (byte_codec 0 3 (omega arith)) (λ (h : OpHead). h.act) (λ h v. (omega arith, v.0.0.0.act)) (λ act t.
+    field_codec cell_codec (λ (h : OpHead). h.place.cell) (λ h v. v.0.0.0.0.cell) (λ cell c.
+    field_codec (byte_codec 0 (most_needs act k) (omega arith)) (λ (h : OpHead). h.needs) (λ h v. (omega arith, subst (λ (b : ℕ). h.needs ≤ most_needs b k) v.0.1 v.0.0.0.0.0.needs)) (λ needs n.
+    field_codec (byte_codec 0 0 (omega arith)) (λ (h : OpHead). 0) (λ h v. (omega arith, omega arith)) (λ filler f.
+    done_codec (record { pass = pass; place = record { stage = stage; array = array; cell = cell }; act = act; needs = needs })
+    (λ h. ((((((IsOpHead passes k h × (h.pass ≡ pass)) × (h.place.stage ≡ stage)) × (h.place.array ≡ array)) × (h.act ≡ act)) × (h.place.cell ≡ cell)) × (h.needs ≡ needs)) × (0 ≡ filler))
+    (((((((record { pass = p; stage = omega (arith, s.1); array = omega (arith, a.1); act = t.1; cell = c; needs = n.1 }, refl), refl), refl), refl), refl), refl), omega (arith, f.1))
+    (λ h v. rw (← v.0.0.0.0.0.0.1, ← v.0.0.0.0.0.1, ← v.0.0.0.0.1, ← v.0.0.0.1, ← v.0.0.1, ← v.0.1) refl)))))))))
     (λ h v. v) (λ h v. v) (λ h v. refl)
 
 abbrev head_of : PacketOp → OpHead
@@ -237,11 +238,6 @@ act_small Read = omega arith
 act_small (Put base) = omega arith
 act_small (Add base) = omega arith
 act_small (Choose limit above below) = omega arith
-
--- operation 0 needs nothing
-none_below : (ns : List Need) → AllByRecursion (λ n. n.from < 0) ns → length ns ≤ 0
-none_below [] v = omega arith
-none_below (n ∷ ns) v = absurd (omega (arith, v.0))
 
 above_zero : (k n : ℕ) → n ≤ 4 → n ≤ cond (suc k == 0) 0 4
 above_zero k n few = grind (arith, nat_tests)
@@ -301,8 +297,8 @@ made_op passes k h bias act needs v b a n = record {
     cell = v.cell;
     earlier = n.1;
     read = λ r.
-      let zero_byte : h.act ≡ 0 = sym a.0 ∙ read_byte act r in
-      (b.1 zero_byte, nil_from_length (needs_list needs) (omega (arith, n.0, subst (λ (byte : ℕ). h.needs ≤ most_needs byte k) zero_byte v.needs)));
+        let zero_byte : h.act ≡ 0 = sym a.0 ∙ read_byte act r in
+        (b.1 zero_byte, nil_from_length (needs_list needs) (omega (arith, n.0, subst (λ (byte : ℕ). h.needs ≤ most_needs byte k) zero_byte v.needs)));
   };
   typed = record { bias = b.0; act = a.1 };
 }
@@ -312,14 +308,14 @@ unfolding op_at op_text
 op_codec passes k some =
     recast op_text (IsOp passes k)
     (field_codec (op_head_codec passes k some) head_of (head_fits passes k) (λ head h.
-     field_codec (bias_codec head.act) (λ (op : PacketOp). op.bias) (λ op v. (v.0.typed.bias, λ e. (v.0.fits.read (byte_read op.act (ap (λ (h : OpHead). h.act) v.1 ∙ e))).0)) (λ bias b.
-     field_codec (act_codec head.act h.act) (λ (op : PacketOp). op.act) (λ op v. (ap (λ (h : OpHead). h.act) v.0.1, v.0.0.typed.act)) (λ act a.
-     field_codec (needs_codec k head.needs (omega (arith, h.needs, at_most_four (head.act == 0 || k == 0))) (is_later head.act k head.needs h.needs)) (λ (op : PacketOp). op.needs)
-      (λ op v. (ap (λ (h : OpHead). h.needs) v.0.0.1, v.0.0.0.fits.earlier)) (λ needs n.
-     done_codec (record { pass = head.pass; place = head.place; act = act; bias = bias; needs = needs })
-     (λ op. (((IsOp passes k op × (head_of op ≡ head)) × (op.bias ≡ bias)) × (op.act ≡ act)) × (op.needs ≡ needs))
-     ((((made_op passes k head bias act needs h b a n, rw (a.0, n.0) refl), refl), refl), refl)
-     (λ op v. rw (← v.0.0.0.1, ← v.0.0.1, ← v.0.1, ← v.1) refl))))))
+    field_codec (bias_codec head.act) (λ (op : PacketOp). op.bias) (λ op v. (v.0.typed.bias, λ e. (v.0.fits.read (byte_read op.act (ap (λ (h : OpHead). h.act) v.1 ∙ e))).0)) (λ bias b.
+    field_codec (act_codec head.act h.act) (λ (op : PacketOp). op.act) (λ op v. (ap (λ (h : OpHead). h.act) v.0.1, v.0.0.typed.act)) (λ act a.
+    field_codec (needs_codec k head.needs (omega (arith, h.needs, at_most_four (head.act == 0 || k == 0))) (is_later head.act k head.needs h.needs)) (λ (op : PacketOp). op.needs)
+    (λ op v. (ap (λ (h : OpHead). h.needs) v.0.0.1, v.0.0.0.fits.earlier)) (λ needs n.
+    done_codec (record { pass = head.pass; place = head.place; act = act; bias = bias; needs = needs })
+    (λ op. (((IsOp passes k op × (head_of op ≡ head)) × (op.bias ≡ bias)) × (op.act ≡ act)) × (op.needs ≡ needs))
+    ((((made_op passes k head bias act needs h b a n, rw (a.0, n.0) refl), refl), refl), refl)
+    (λ op v. rw (← v.0.0.0.1, ← v.0.0.1, ← v.0.1, ← v.1) refl))))))
     (λ op v. v) (λ op v. v) (λ op v. rw append-nil refl)
 
 -- ---- packets
@@ -339,18 +335,18 @@ unfolding packet_head_at
 packet_head_codec =
     recast packet_head_text IsPacketHead
     (field_codec (byte_codec PACKET_MARK PACKET_MARK (omega arith)) (λ (h : PacketHead). PACKET_MARK) (λ h v. (omega arith, omega arith)) (λ mark m.
-     field_codec (byte_codec VERSION VERSION (omega arith)) (λ (h : PacketHead). VERSION) (λ h v. (omega arith, omega arith)) (λ version n.
-     field_codec (byte_codec 0 (CLIENTS - 1) (omega arith)) (λ (h : PacketHead). h.client) (λ h v. let b = v.0.0.client in (omega arith, omega arith)) (λ client c.
-     field_codec (byte_codec 0 0 (omega arith)) (λ (h : PacketHead). 0) (λ h v. (omega arith, omega arith)) (λ filler f.
-     field_codec u32_codec (λ (h : PacketHead). h.seq) (λ h v. v.0.0.0.0.seq) (λ seq s.
-     field_codec (byte_codec 1 MOST_PASSES (omega arith)) (λ (h : PacketHead). h.passes) (λ h v. v.0.0.0.0.0.passes) (λ passes p.
-     field_codec (byte_codec 1 BOTH_HALVES (omega arith)) (λ (h : PacketHead). h.halves) (λ h v. v.0.0.0.0.0.0.halves) (λ halves t.
-     field_codec (byte_codec 1 MOST_PACKET_OPS (omega arith)) (λ (h : PacketHead). h.ops) (λ h v. v.0.0.0.0.0.0.0.ops) (λ ops o.
-     field_codec (byte_codec 0 0 (omega arith)) (λ (h : PacketHead). 0) (λ h v. (omega arith, omega arith)) (λ last l.
-     done_codec (record { client = client; seq = seq; passes = passes; halves = halves; ops = ops })
-     (λ h. ((((((((IsPacketHead h × (PACKET_MARK ≡ mark)) × (VERSION ≡ version)) × (h.client ≡ client)) × (0 ≡ filler)) × (h.seq ≡ seq)) × (h.passes ≡ passes)) × (h.halves ≡ halves)) × (h.ops ≡ ops)) × (0 ≡ last))
-     (((((((((record { client = omega (arith, c.1); seq = s; passes = p; halves = t; ops = o }, omega (arith, m.0, m.1)), omega (arith, n.0, n.1)), refl), omega (arith, f.1)), refl), refl), refl), refl), omega (arith, l.1))
-     (λ h v. rw (← v.0.0.0.0.0.0.1, ← v.0.0.0.0.1, ← v.0.0.0.1, ← v.0.0.1, ← v.0.1) refl)))))))))))
+    field_codec (byte_codec VERSION VERSION (omega arith)) (λ (h : PacketHead). VERSION) (λ h v. (omega arith, omega arith)) (λ version n.
+    field_codec (byte_codec 0 (CLIENTS - 1) (omega arith)) (λ (h : PacketHead). h.client) (λ h v. let b = v.0.0.client in (omega arith, omega arith)) (λ client c.
+    field_codec (byte_codec 0 0 (omega arith)) (λ (h : PacketHead). 0) (λ h v. (omega arith, omega arith)) (λ filler f.
+    field_codec u32_codec (λ (h : PacketHead). h.seq) (λ h v. v.0.0.0.0.seq) (λ seq s.
+    field_codec (byte_codec 1 MOST_PASSES (omega arith)) (λ (h : PacketHead). h.passes) (λ h v. v.0.0.0.0.0.passes) (λ passes p.
+    field_codec (byte_codec 1 BOTH_HALVES (omega arith)) (λ (h : PacketHead). h.halves) (λ h v. v.0.0.0.0.0.0.halves) (λ halves t.
+    field_codec (byte_codec 1 MOST_PACKET_OPS (omega arith)) (λ (h : PacketHead). h.ops) (λ h v. v.0.0.0.0.0.0.0.ops) (λ ops o.
+    field_codec (byte_codec 0 0 (omega arith)) (λ (h : PacketHead). 0) (λ h v. (omega arith, omega arith)) (λ last l.
+    done_codec (record { client = client; seq = seq; passes = passes; halves = halves; ops = ops })
+    (λ h. ((((((((IsPacketHead h × (PACKET_MARK ≡ mark)) × (VERSION ≡ version)) × (h.client ≡ client)) × (0 ≡ filler)) × (h.seq ≡ seq)) × (h.passes ≡ passes)) × (h.halves ≡ halves)) × (h.ops ≡ ops)) × (0 ≡ last))
+    (((((((((record { client = omega (arith, c.1); seq = s; passes = p; halves = t; ops = o }, omega (arith, m.0, m.1)), omega (arith, n.0, n.1)), refl), omega (arith, f.1)), refl), refl), refl), refl), omega (arith, l.1))
+    (λ h v. rw (← v.0.0.0.0.0.0.1, ← v.0.0.0.0.1, ← v.0.0.0.1, ← v.0.0.1, ← v.0.1) refl)))))))))))
     (λ h v. v) (λ h v. v) (λ h v. refl)
 
 abbrev head_of_packet : PlainPacket → PacketHead
@@ -377,10 +373,10 @@ unfolding packet_at packet_text
 packet_codec =
     recast packet_text IsPacket
     (field_codec packet_head_codec head_of_packet (λ p v. record { client = v.fits.client; seq = v.typed.seq; passes = v.fits.passes; halves = v.fits.halves; ops = v.fits.count }) (λ head h.
-     field_codec (each_codec op_text (IsOp head.passes) (op_at head.passes) (λ k. op_codec head.passes k h.passes.0) head.ops 0) (λ (p : PlainPacket). p.ops)
-      (λ p v. (ap (λ (h : PacketHead). h.ops) v.1, subst (λ (passes : ℕ). EachIs (IsOp passes) 0 p.ops) (ap (λ (h : PacketHead). h.passes) v.1) (each_from_packet p.passes 0 p.ops v.0.fits.ops v.0.typed.ops))) (λ ops o.
-     done_codec (record { client = head.client; seq = head.seq; passes = head.passes; halves = head.halves; ops = ops })
-     (λ p. (IsPacket p × (head_of_packet p ≡ head)) × (p.ops ≡ ops))
-     ((made_packet head ops h o, rw o.0 refl), refl)
-     (λ p v. rw (← v.0.1, ← v.1) refl))))
+    field_codec (each_codec op_text (IsOp head.passes) (op_at head.passes) (λ k. op_codec head.passes k h.passes.0) head.ops 0) (λ (p : PlainPacket). p.ops)
+    (λ p v. (ap (λ (h : PacketHead). h.ops) v.1, subst (λ (passes : ℕ). EachIs (IsOp passes) 0 p.ops) (ap (λ (h : PacketHead). h.passes) v.1) (each_from_packet p.passes 0 p.ops v.0.fits.ops v.0.typed.ops))) (λ ops o.
+    done_codec (record { client = head.client; seq = head.seq; passes = head.passes; halves = head.halves; ops = ops })
+    (λ p. (IsPacket p × (head_of_packet p ≡ head)) × (p.ops ≡ ops))
+    ((made_packet head ops h o, rw o.0 refl), refl)
+    (λ p v. rw (← v.0.1, ← v.1) refl))))
     (λ p v. v) (λ p v. v) (λ p v. rw append-nil refl)

@@ -8,7 +8,8 @@ use Rattle.txn_model.specs.declared.op.Needs.{Needs}
 use Rattle.txn_model.specs.declared.op.Needs.TheVariants.{Zero, One, Two, Three, Four}
 use Rattle.txn_model.specs.declared.op.Which.{Which}
 use Rattle.txn_model.specs.declared.op.Which.TheVariants.{Old, Moved}
-use Rattle.switch_packet.specs.declared.limits.TheConstants.{PACKET_MARK, VERSION, CLIENTS, MOST_PASSES, BOTH_HALVES, MOST_PACKET_OPS, MOST_NEEDS, STAGES, ARRAYS, CELLS}
+use Rattle.switch_packet.specs.declared.format.TheConstants.{PACKET_MARK, VERSION, READ, CHOOSE, OLD, MOVED}
+use Rattle.switch_packet.specs.declared.limits.TheConstants.{CLIENTS, MOST_PASSES, BOTH_HALVES, MOST_PACKET_OPS, MOST_NEEDS, STAGES, ARRAYS, CELLS}
 use Rattle.switch_packet.specs.declared.fault.PacketFault.{PacketFault}
 use Rattle.switch_packet.specs.declared.decode.OpHead.{OpHead}
 use Rattle.switch_packet.specs.declared.decode.PacketHead.{PacketHead}
@@ -26,7 +27,7 @@ cell_at c = do
 
 -- the most needs that operation k may have, where the act has this byte
 abbrev pub most_needs : ℕ → ℕ → ℕ
-most_needs act k = if act == 0 || k == 0 then 0 else MOST_NEEDS
+most_needs act k = if act == READ || k == 0 then 0 else MOST_NEEDS
 
 -- the first 8 bytes of operation k
 unfoldable pub op_head_at : ℕ → ℕ → Cursor → Result (OpHead × Cursor) PacketFault
@@ -34,7 +35,7 @@ op_head_at passes k c = do
   pass ← byte_at 1 passes c
   stage ← byte_at 0 (STAGES - 1) pass.1
   array ← byte_at 0 (ARRAYS - 1) stage.1
-  act ← byte_at 0 3 array.1
+  act ← byte_at READ CHOOSE array.1
   cell ← cell_at act.1
   needs ← byte_at 0 (most_needs act.0 k) cell.1
   filler ← byte_at 0 0 needs.1
@@ -70,7 +71,7 @@ which_of (suc b) = Moved
 unfoldable pub need_at : ℕ → Cursor → Result (Need × Cursor) PacketFault
 need_at k c = do
   from ← byte_at 0 (k - 1) c
-  which ← byte_at 0 1 from.1
+  which ← byte_at OLD MOVED from.1
   Ok (record { from = from.0; which = which_of which.0 }, which.1)
 
 abbrev pub needs_of : List Need → Needs

@@ -8,7 +8,7 @@ use Rattle.txn_model.specs.declared.op.Act.TheVariants.{Read, Put, Add, Choose}
 use Rattle.txn_model.specs.declared.op.Need.{Need}
 use Rattle.txn_model.specs.declared.op.Which.{Which}
 use Rattle.txn_model.specs.declared.op.Which.TheVariants.{Old, Moved}
-use Rattle.switch_packet.specs.declared.limits.TheConstants.{PACKET_MARK, VERSION}
+use Rattle.switch_packet.specs.declared.format.TheConstants.{PACKET_MARK, VERSION, READ, PUT, ADD, CHOOSE, OLD, MOVED}
 use Rattle.switch_packet.specs.declared.packet.PacketOp.{PacketOp}
 use Rattle.switch_packet.specs.Packets.{PlainPacket}
 use Rattle.switch_packet.specs.Ranges.{act_numbers}
@@ -17,14 +17,14 @@ abbrev pub i64_text : ℤ → List ℕ
 i64_text z = to_be_bytes w64 (cast_unsigned w64 z)
 
 abbrev pub act_byte : Act → ℕ
-act_byte Read = 0
-act_byte (Put base) = 1
-act_byte (Add base) = 2
-act_byte (Choose limit above below) = 3
+act_byte Read = READ
+act_byte (Put base) = PUT
+act_byte (Add base) = ADD
+act_byte (Choose limit above below) = CHOOSE
 
 abbrev pub which_byte : Which → ℕ
-which_byte Old = 0
-which_byte Moved = 1
+which_byte Old = OLD
+which_byte Moved = MOVED
 
 abbrev pub need_text : Need → List ℕ
 need_text need = need.from ∷ which_byte need.which ∷ []

@@ -9,37 +9,39 @@ use Rattle.txn_model.specs.declared.place.Place.{Place}
 use Rattle.switch_packet.specs.declared.packet.PacketOp.{PacketOp}
 use Rattle.switch_packet.specs.Packets.{PlainPacket}
 
--- the number at the place, and 0 where it isn't there
-abbrev pub number_at : Places → Place → ℤ
-number_at m place = unwrap_or (fin.get m place) (pos 0)
+-- the number in the register at the place, and 0 where it isn't there
+abbrev pub register_at : Places → Place → ℤ
+register_at m place = unwrap_or (fin.get m place) (pos 0)
 
 -- the pair of an operation that finds this number, after these pairs
 abbrev pub packet_pair : PacketOp → List Pair → ℤ → Pair
 packet_pair op done was = record { was = was; now = effect op.act was (operand (needs_list op.needs) op.bias done) }
 
--- one pair per operation, and the map after them
-pub record OpsReplayed : Type 0 where
+-- the pairs of a packet's operations, and the map after them
+pub record Replayed : Type 0 where
   pub pairs : List Pair
   pub after : Places
 
 -- the rest of a packet, after the operations with these pairs
-unfoldable pub replay_from : List PacketOp → List Pair → Places → OpsReplayed
+unfoldable pub replay_from : List PacketOp → List Pair → Places → Replayed
 replay_from [] done m = record { pairs = done; after = m }
-replay_from (op ∷ ops) done m = let pair = packet_pair op done (number_at m op.place) in replay_from ops (done ++ pair ∷ []) (fin.insert m op.place pair.now)
+replay_from (op ∷ ops) done m =
+    let pair = packet_pair op done (register_at m op.place) in
+    replay_from ops (done ++ pair ∷ []) (fin.insert m op.place pair.now)
 
--- one packet
-abbrev pub replay_one : PlainPacket → Places → OpsReplayed
-replay_one p m = replay_from p.ops [] m
+-- the replay of a packet: its operations in order, each on its place
+abbrev pub replay : PlainPacket → Places → Replayed
+replay p m = replay_from p.ops [] m
 
 -- the pairs of each packet, and the map after the last
-pub record Replayed : Type 0 where
+pub record ReplayedAll : Type 0 where
   pub pairs : List (List Pair)
   pub after : Places
 
--- a list of packets: each is executed whole on the map that the one before left
-unfoldable pub replayed : List PlainPacket → Places → Replayed
-replayed [] m = record { pairs = []; after = m }
-replayed (p ∷ ps) m =
-    let first = replay_one p m in
-    let rest = replayed ps first.after in
+-- the replay of a list of packets: each is executed whole on the map that the one before left
+unfoldable pub replay_all : List PlainPacket → Places → ReplayedAll
+replay_all [] m = record { pairs = []; after = m }
+replay_all (p ∷ ps) m =
+    let first = replay p m in
+    let rest = replay_all ps first.after in
     record { pairs = first.pairs ∷ rest.pairs; after = rest.after }

@@ -9,9 +9,9 @@ ghost use Rattle.switch_packet.specs.Reading.{Reads, ReadsAs, start, each_at};
 ghost use Rattle.switch_packet.specs.PacketReading.{cell_at, most_needs, op_head_at, bias_at, act_at, need_at, needs_at, op_at, packet_head_at, packet_at, Decodes};
 
 use crate::fault::PacketFault;
+use crate::format::{ADD, CHOOSE, MOVED, OLD, PACKET_MARK, PUT, READ, VERSION};
 use crate::limits::{
-    ARRAYS, BOTH_HALVES, CELLS, CLIENTS, MOST_NEEDS, MOST_PACKET_OPS, MOST_PASSES, PACKET_MARK,
-    STAGES, VERSION,
+    ARRAYS, BOTH_HALVES, CELLS, CLIENTS, MOST_NEEDS, MOST_PACKET_OPS, MOST_PASSES, STAGES,
 };
 use crate::packet::{Packet, PacketOp, PacketOps};
 use crate::reader::Reader;
@@ -37,7 +37,7 @@ pub struct PacketHead {
 }
 
 #[tactic(auto, unfolding(crate::specs::PacketReading::cell_at))]
-fn cell(reader: &mut Reader<'_>) -> Result<u16, PacketFault>
+fn read_cell(reader: &mut Reader<'_>) -> Result<u16, PacketFault>
     ensures { Reads reader.new result (cell_at reader.old) }
 {
     let high = reader.byte(0, ((CELLS - 1) / 256) as u8)?;
@@ -45,24 +45,29 @@ fn cell(reader: &mut Reader<'_>) -> Result<u16, PacketFault>
     Ok(u16::from_be_bytes([high, low]))
 }
 
+/// The most needs that an operation may have. A read and a packet's first operation have none.
 fn most_needs(act: u8, number: u8) -> u8
     ensures { result ≡ most_needs act number }
 {
-    if act == 0 || number == 0 { 0 } else { MOST_NEEDS }
+    if act == READ || number == 0 {
+        0
+    } else {
+        MOST_NEEDS
+    }
 }
 
 #[tactic(auto, unfolding(crate::specs::PacketReading::op_head_at))]
-fn op_head(reader: &mut Reader<'_>, passes: u8, number: u8) -> Result<OpHead, PacketFault>
+fn read_op_head(reader: &mut Reader<'_>, passes: u8, number: u8) -> Result<OpHead, PacketFault>
     ensures value { Reads reader.new result (op_head_at passes number reader.old) }
     ensures few { IfOk result (λ head. head.needs ≤ most_needs head.act number) }
 {
     let pass = reader.byte(1, passes)?;
     let stage = reader.byte(0, STAGES - 1)?;
     let array = reader.byte(0, ARRAYS - 1)?;
-    let act = reader.byte(0, 3)?;
-    let cell = cell(reader)?;
+    let act = reader.byte(READ, CHOOSE)?;
+    let cell = read_cell(reader)?;
     let needs = reader.byte(0, most_needs(act, number))?;
-    reader.byte(0, 0)?;
+    reader.byte(0, 0)?; // reserved, byte 7
     Ok(OpHead {
         pass,
         place: Place { stage, array, cell },
@@ -71,27 +76,29 @@ fn op_head(reader: &mut Reader<'_>, passes: u8, number: u8) -> Result<OpHead, Pa
     })
 }
 
+/// The bias of an operation. A read has none.
 #[tactic(auto, unfolding(crate::specs::PacketReading::bias_at))]
-fn bias(reader: &mut Reader<'_>, act: u8) -> Result<i64, PacketFault>
+fn read_bias(reader: &mut Reader<'_>, act: u8) -> Result<i64, PacketFault>
     ensures { Reads reader.new result (bias_at act reader.old) }
 {
-    if act == 0 {
+    if act == READ {
         reader.zeros(8)?;
         return Ok(0);
     }
     reader.i64()
 }
 
+/// The numbers of the act that has this byte.
 #[tactic(auto, unfolding(crate::specs::PacketReading::act_at))]
-fn act(reader: &mut Reader<'_>, byte: u8) -> Result<Act, PacketFault>
+fn read_act(reader: &mut Reader<'_>, byte: u8) -> Result<Act, PacketFault>
     ensures { Reads reader.new result (act_at byte reader.old) }
 {
     Ok(match byte {
-        0 => Act::Read,
-        1 => Act::Put {
+        READ => Act::Read,
+        PUT => Act::Put {
             base: reader.i64()?,
         },
-        2 => Act::Add {
+        ADD => Act::Add {
             base: reader.i64()?,
         },
         _ => Act::Choose {
@@ -103,39 +110,38 @@ fn act(reader: &mut Reader<'_>, byte: u8) -> Result<Act, PacketFault>
 }
 
 #[tactic(auto, unfolding(crate::specs::PacketReading::need_at))]
-fn need(reader: &mut Reader<'_>, number: u8) -> Result<Need, PacketFault>
+fn read_need(reader: &mut Reader<'_>, number: u8) -> Result<Need, PacketFault>
     requires { 1 ≤ number }
     ensures { Reads reader.new result (need_at number reader.old) }
 {
     let from = reader.byte(0, number - 1)?;
-    let which = match reader.byte(0, 1)? {
-        0 => Which::Old,
+    let which = match reader.byte(OLD, MOVED)? {
+        OLD => Which::Old,
         _ => Which::Moved,
     };
     Ok(Need { from, which })
 }
 
-#[tactic(auto, unfolding(crate::specs::PacketReading::needs_at))]
-fn needs(reader: &mut Reader<'_>, number: u8, count: u8) -> Result<Needs, PacketFault>
+fn read_needs(reader: &mut Reader<'_>, number: u8, count: u8) -> Result<Needs, PacketFault>
     requires few { count ≤ MOST_NEEDS }
     requires later { 1 ≤ count → 1 ≤ number }
     ensures { Reads reader.new result (needs_at number count reader.old) }
 {
     let mut needs = Needs::none();
     for _ in 0..count {
-        needs.push(need(reader, number)?);
+        needs.push(read_need(reader, number)?);
     }
     Ok(needs)
 }
 
 #[tactic(auto, unfolding(crate::specs::PacketReading::op_at))]
-fn op(reader: &mut Reader<'_>, passes: u8, number: u8) -> Result<PacketOp, PacketFault>
+fn read_op(reader: &mut Reader<'_>, passes: u8, number: u8) -> Result<PacketOp, PacketFault>
     ensures { Reads reader.new result (op_at passes number reader.old) }
 {
-    let head = op_head(reader, passes, number)?;
-    let bias = bias(reader, head.act)?;
-    let act = act(reader, head.act)?;
-    let needs = needs(reader, number, head.needs)?;
+    let head = read_op_head(reader, passes, number)?;
+    let bias = read_bias(reader, head.act)?;
+    let act = read_act(reader, head.act)?;
+    let needs = read_needs(reader, number, head.needs)?;
     Ok(PacketOp {
         pass: head.pass,
         place: head.place,
@@ -145,30 +151,7 @@ fn op(reader: &mut Reader<'_>, passes: u8, number: u8) -> Result<PacketOp, Packe
     })
 }
 
-#[tactic(auto, unfolding(crate::specs::PacketReading::packet_head_at))]
-fn packet_head(reader: &mut Reader<'_>) -> Result<PacketHead, PacketFault>
-    ensures value { Reads reader.new result (packet_head_at reader.old) }
-    ensures few { IfOk result (λ head. head.ops ≤ MOST_PACKET_OPS) }
-{
-    reader.byte(PACKET_MARK, PACKET_MARK)?;
-    reader.byte(VERSION, VERSION)?;
-    let client = reader.byte(0, CLIENTS - 1)?;
-    reader.byte(0, 0)?;
-    let seq = reader.u32()?;
-    let passes = reader.byte(1, MOST_PASSES)?;
-    let halves = reader.byte(1, BOTH_HALVES)?;
-    let ops = reader.byte(1, MOST_PACKET_OPS)?;
-    reader.byte(0, 0)?;
-    Ok(PacketHead {
-        client,
-        seq,
-        passes,
-        halves,
-        ops,
-    })
-}
-
-fn ops(
+fn read_ops(
     reader: &mut Reader<'_>,
     passes: u8,
     count: u8,
@@ -180,34 +163,57 @@ fn ops(
     ensures room { length to.new.items + to.new.spare ≡ to.old.spare }
 {
     for number in 0..count {
-        to.push(op(reader, passes, number)?);
+        to.push(read_op(reader, passes, number)?);
     }
     Ok(())
 }
 
+#[tactic(auto, unfolding(crate::specs::PacketReading::packet_head_at))]
+fn read_packet_head(reader: &mut Reader<'_>) -> Result<PacketHead, PacketFault>
+    ensures value { Reads reader.new result (packet_head_at reader.old) }
+    ensures few { IfOk result (λ head. head.ops ≤ MOST_PACKET_OPS) }
+{
+    reader.byte(PACKET_MARK, PACKET_MARK)?;
+    reader.byte(VERSION, VERSION)?;
+    let client = reader.byte(0, CLIENTS - 1)?;
+    reader.byte(0, 0)?; // reserved, byte 3
+    let seq = reader.u32()?;
+    let passes = reader.byte(1, MOST_PASSES)?;
+    let halves = reader.byte(1, BOTH_HALVES)?;
+    let ops = reader.byte(1, MOST_PACKET_OPS)?;
+    reader.byte(0, 0)?; // reserved, byte 11
+    Ok(PacketHead {
+        client,
+        seq,
+        passes,
+        halves,
+        ops,
+    })
+}
+
 #[tactic(auto, unfolding(crate::specs::PacketReading::packet_at))]
-fn packet(reader: &mut Reader<'_>, to: &mut Packet) -> Result<(), PacketFault>
+fn read_fields(reader: &mut Reader<'_>, to: &mut Packet) -> Result<(), PacketFault>
     requires { MOST_PACKET_OPS ≤ length to.old.ops.items + to.old.ops.spare }
     ensures value { ReadsAs (plain to.new) reader.new result (packet_at reader.old) }
     ensures room { length to.new.ops.items + to.new.ops.spare ≡ length to.old.ops.items + to.old.ops.spare }
 {
     to.clear();
-    let head = packet_head(reader)?;
+    let head = read_packet_head(reader)?;
     to.client = head.client;
     to.seq = head.seq;
     to.passes = head.passes;
     to.halves = head.halves;
-    ops(reader, head.passes, head.ops, &mut to.ops)
+    read_ops(reader, head.passes, head.ops, &mut to.ops)
 }
 
-/// Reads a packet's text into `to`, whose room for operations is kept. After a fault `to` is blank.
+/// Reads a packet's text into `to`. The room for operations is kept. After a fault `to` is blank.
 pub fn read_packet(reader: &mut Reader<'_>, to: &mut Packet) -> Result<(), PacketFault>
     requires { MOST_PACKET_OPS ≤ length to.old.ops.items + to.old.ops.spare }
     ensures value { ReadsAs (plain to.new) reader.new result (packet_at reader.old) }
     ensures blank { OnErr result (plain to.new ≡ blank_packet) }
     ensures room { length to.new.ops.items + to.new.ops.spare ≡ length to.old.ops.items + to.old.ops.spare }
 {
-    let result = packet(reader, to);
+    let result = read_fields(reader, to);
     if result.is_err() {
         to.clear();
     }
@@ -226,7 +232,7 @@ fn decode(bytes: &[u8], to: &mut Packet) -> Result<usize, PacketFault>
 }
 
 /// Reads the packet's text at the front of the bytes into `to`, and answers how many bytes it takes. The
-/// room for operations is kept. After a fault `to` is blank.
+/// room for operations is kept. After a fault `to` is blank. It takes no memory.
 pub fn decode_into(bytes: &[u8], to: &mut Packet) -> Result<usize, PacketFault>
     requires { MOST_PACKET_OPS ≤ length to.old.ops.items + to.old.ops.spare }
     // The bytes that were read are the text of the packet that `to` is now.

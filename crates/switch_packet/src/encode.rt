@@ -1,14 +1,15 @@
 //! Writing a packet's text.
 
-ghost use Rattle.std.specs.Prelude.{◌≡◌, ◌≤◌, ◌+◌, length};
-ghost use Rattle.std.specs.List.{flat_map};
+ghost use Rattle.std.specs.Prelude.{◌≡◌, length, FitsSigned};
+ghost use Rattle.std.specs.Int.{w64};
+ghost use Rattle.std.specs.List.{flat_map, AllByRecursion};
 ghost use Rattle.txn_model.specs.Needs.{needs_list};
 ghost use Rattle.switch_packet.specs.Packets.{plain};
-ghost use Rattle.switch_packet.specs.Ranges.{Fits, act_numbers};
+ghost use Rattle.switch_packet.specs.Ranges.{Fits, IsPacket, OpIsTyped, act_numbers};
 ghost use Rattle.switch_packet.specs.PacketText.{i64_text, act_byte, which_byte, need_text, op_text, packet_text};
 ghost use Rattle.switch_packet.specs.Writing.{HasRoom, Adds};
 
-use crate::limits::{PACKET_MARK, VERSION};
+use crate::format::{ADD, CHOOSE, MOVED, OLD, PACKET_MARK, PUT, READ, VERSION};
 use crate::packet::{Packet, PacketOp};
 use crate::writer::{push_bytes, push_i64, push_u16, push_u32};
 use txn_model::{Act, Needs, Which};
@@ -17,16 +18,17 @@ fn act_byte(act: &Act) -> u8
     ensures { result ≡ act_byte act.now }
 {
     match act {
-        Act::Read => 0,
-        Act::Put { .. } => 1,
-        Act::Add { .. } => 2,
-        Act::Choose { .. } => 3,
+        Act::Read => READ,
+        Act::Put { .. } => PUT,
+        Act::Add { .. } => ADD,
+        Act::Choose { .. } => CHOOSE,
     }
 }
 
 fn push_act(act: &Act, to: &mut Vec<u8>)
     requires { HasRoom to.old (length (flat_map i64_text (act_numbers act.now))) }
-    ensures { Adds to.old to.new (flat_map i64_text (act_numbers act.now)) }
+    ensures added { Adds to.old to.new (flat_map i64_text (act_numbers act.now)) }
+    ensures typed { AllByRecursion (FitsSigned w64) (act_numbers act.now) }
 {
     match *act {
         Act::Read => {}
@@ -48,8 +50,8 @@ fn which_byte(which: Which) -> u8
     ensures { result ≡ which_byte which }
 {
     match which {
-        Which::Old => 0,
-        Which::Moved => 1,
+        Which::Old => OLD,
+        Which::Moved => MOVED,
     }
 }
 
@@ -66,7 +68,8 @@ fn push_needs(needs: &Needs, to: &mut Vec<u8>)
 #[tactic(auto, unfolding(crate::specs::PacketText::op_text))]
 fn push_op(op: &PacketOp, to: &mut Vec<u8>)
     requires { HasRoom to.old (length (op_text op.now)) }
-    ensures { Adds to.old to.new (op_text op.now) }
+    ensures added { Adds to.old to.new (op_text op.now) }
+    ensures typed { OpIsTyped op.now }
 {
     let place = op.place;
     push_bytes(to, &[op.pass, place.stage, place.array, act_byte(&op.act)]);
@@ -79,19 +82,21 @@ fn push_op(op: &PacketOp, to: &mut Vec<u8>)
 
 fn push_ops(ops: &[PacketOp], to: &mut Vec<u8>)
     requires { HasRoom to.old (length (flat_map op_text ops.now)) }
-    ensures { Adds to.old to.new (flat_map op_text ops.now) }
+    ensures added { Adds to.old to.new (flat_map op_text ops.now) }
+    ensures typed { AllByRecursion OpIsTyped ops.now }
 {
     for op in ops {
         push_op(op, to);
     }
 }
 
-/// Adds the packet's text at the end of `to`, in its spare room.
+/// Adds the packet's text at the end of `to`, in its spare room. It takes no memory.
 #[tactic(auto, unfolding(crate::specs::PacketText::packet_text))]
 pub fn encode_into(packet: &Packet, to: &mut Vec<u8>)
     requires fits { Fits (plain packet.now) }
     requires room { HasRoom to.old (length (packet_text (plain packet.now))) }
-    ensures { Adds to.old to.new (packet_text (plain packet.now)) }
+    ensures added { Adds to.old to.new (packet_text (plain packet.now)) }
+    ensures typed { IsPacket (plain packet.now) }
 {
     push_bytes(to, &[PACKET_MARK, VERSION, packet.client, 0]);
     push_u32(to, packet.seq);

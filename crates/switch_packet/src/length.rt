@@ -7,7 +7,7 @@ ghost use Rattle.switch_packet.specs.Packets.{plain};
 ghost use Rattle.switch_packet.specs.Ranges.{Fits, act_numbers};
 ghost use Rattle.switch_packet.specs.PacketText.{i64_text, op_text, packet_text};
 
-use crate::limits::MOST_PACKET_OPS;
+use crate::limits::{LONGEST_TEXT, MOST_PACKET_OPS};
 use crate::packet::{Packet, PacketOp};
 use txn_model::Act;
 
@@ -41,11 +41,12 @@ fn ops_len(ops: &[PacketOp]) -> usize
     len
 }
 
-/// How many bytes the packet's text has: at most 780.
+/// How many bytes the packet's text has: at most 772. It takes no memory.
 #[tactic(auto, unfolding(crate::specs::PacketText::packet_text))]
 pub fn packet_len(packet: &Packet) -> usize
     requires { Fits (plain packet.now) }
-    ensures { result ≡ length (packet_text (plain packet.now)) }
+    ensures value { result ≡ length (packet_text (plain packet.now)) }
+    ensures bound { result ≤ LONGEST_TEXT }
 {
     12 + ops_len(packet.ops.as_slice())
 }

@@ -4,6 +4,7 @@
 mod decode;
 mod encode;
 mod fault;
+mod format;
 mod laws;
 mod length;
 mod limits;
@@ -15,13 +16,16 @@ mod writer;
 pub use decode::{decode_into, read_packet};
 pub use encode::encode_into;
 pub use fault::PacketFault;
-pub use laws::{replays_in_turn, texts_differ};
+pub use laws::{one_pair_each, replays_in_turn, texts_are_short, texts_differ};
 pub use length::packet_len;
 pub use limits::{
-    ARRAYS, BOTH_HALVES, CELLS, CLIENTS, MOST_NEEDS, MOST_PACKET_OPS, MOST_PASSES, PACKET_MARK,
-    STAGES, VERSION,
+    ARRAYS, BOTH_HALVES, CELLS, CLIENTS, LONGEST_TEXT, MOST_NEEDS, MOST_PACKET_OPS, MOST_PASSES,
+    STAGES,
 };
 pub use packet::{Packet, PacketOp, PacketOps};
 pub use reader::Reader;
 pub use record::{Intent, Intents, LogView, Outcome, Outcomes};
 pub use writer::{push_bytes, push_i64, push_u16, push_u32, push_u64};
+
+#[cfg(test)]
+mod tests;

@@ -1,9 +1,5 @@
 //! The ranges of a packet's fields, said once for the code and for the definitions.
 
-/// The first byte of a packet's text: `P`.
-pub const PACKET_MARK: u8 = 0x50;
-/// The version of the text.
-pub const VERSION: u8 = 1;
 /// How many clients there may be.
 pub const CLIENTS: u8 = 8;
 /// The most passes of a packet.
@@ -20,3 +16,5 @@ pub const STAGES: u8 = 12;
 pub const ARRAYS: u8 = 4;
 /// How many cells a register array may have.
 pub const CELLS: u16 = 4096;
+/// How many bytes the longest text of a packet has.
+pub const LONGEST_TEXT: usize = 772;

@@ -1,10 +1,10 @@
-use Rattle.std.proofs.Common.{refl, rules, w64, SFits}
+use Rattle.std.proofs.Common.{rules, w64, SFits}
 use Rattle.std.proofs.lemmas.Int.{to_z-of_z}
 use Rattle.switch_packet.proofs.WritingLaws.{Adds-then}
 use Rattle.switch_packet.proofs.encode.push_act.Goals as goal
 
-pub returns-in-Choose : goal.returns-in-Choose
-returns-in-Choose c =
+pub returns-in-Choose-clause-added : goal.returns-in-Choose-clause-added
+returns-in-Choose-clause-added c =
     let limit : SFits w64 c.in-Choose.limit = search rules in
     let above : SFits w64 c.in-Choose.above = search rules in
     let below : SFits w64 c.in-Choose.below = search rules in

@@ -1,5 +1,5 @@
-use Rattle.switch_packet.proofs.ReplayLaws.{replayed-append}
+use Rattle.switch_packet.proofs.ReplayLaws.{replay_all-append}
 use Rattle.switch_packet.proofs.laws.replays_in_turn.Goals as goal
 
 pub returns : goal.returns
-returns c = replayed-append
+returns c = replay_all-append

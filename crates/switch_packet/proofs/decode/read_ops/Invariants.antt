@@ -2,7 +2,7 @@ use Rattle.std.proofs.Common.{◌≡◌, ◌+◌, ◌-◌, ◌≤◌, length}
 use Rattle.switch_packet.specs.Reading.{each_at}
 use Rattle.switch_packet.specs.PacketReading.{op_at}
 use Rattle.switch_packet.proofs.Loops.{with_front}
-use Rattle.switch_packet.proofs.decode.ops.Given as goal
+use Rattle.switch_packet.proofs.decode.read_ops.Given as goal
 
 abbrev pub invariant-loop-number : goal.invariant-loop-number
 invariant-loop-number l =

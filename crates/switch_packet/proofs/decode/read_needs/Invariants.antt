@@ -3,7 +3,7 @@ use Rattle.txn_model.specs.Needs.{needs_list}
 use Rattle.switch_packet.specs.Reading.{each_at}
 use Rattle.switch_packet.specs.PacketReading.{need_at}
 use Rattle.switch_packet.proofs.Loops.{with_front}
-use Rattle.switch_packet.proofs.decode.needs.Given as goal
+use Rattle.switch_packet.proofs.decode.read_needs.Given as goal
 
 abbrev pub invariant-loop : goal.invariant-loop
 invariant-loop l =
