@@ -1,12 +1,13 @@
 -- What a reading function does, told by the texts of the values that it reads, and how one is made of others.
-use Rattle.std.proofs.Common.{◌≡◌, ℕ, zero, suc, ◌+◌, ◌<◌, ◌≤◌, Bool, true, false, cond, ◌||◌, nat_lt, List, [], ◌∷◌, ◌++◌, length, get_or, replicate, Result, Ok, Err, ◌⊎◌, inl, inr, refl, sym, ap, subst, ◌∙◌, append_assoc, add-zero, arith}
+use Rattle.std.proofs.Common.{◌≡◌, ℕ, zero, suc, ◌+◌, ◌<◌, ◌≤◌, Bool, true, false, cond, ◌||◌, ◌==◌, IsTrue, List, [], ◌∷◌, ◌++◌, length, get_or, replicate, Result, Ok, Err, ◌⊎◌, inl, inr, refl, sym, ap, subst, ◌∙◌, append_assoc, add-zero, arith}
+use Rattle.std.specs.Int.{is_in_range}
 use Rattle.std.proofs.lemmas.Bool.Decides.{nat_tests}
 use Rattle.std.specs.List.{flat_map}
 use Rattle.std.proofs.lemmas.List.{append-nil, length-append, nil_from_length}
 use Rattle.switch_packet.specs.declared.fault.PacketFault.{PacketFault}
 use Rattle.switch_packet.specs.declared.fault.PacketFault.TheVariants.{Short, BadByte}
-use Rattle.switch_packet.specs.Fronts.{Begins, IsFront, IsBadAt}
-use Rattle.switch_packet.specs.Reading.{Cursor, ◌>>=◌, byte_in, byte_at, each_at}
+use Rattle.switch_packet.specs.Fronts.{IsFront}
+use Rattle.switch_packet.specs.Reading.{Cursor, ◌>>=◌, byte_in, byte_by, byte_at, either_at, each_at}
 
 -- ---- bytes
 
@@ -61,62 +62,53 @@ pub record IsCodec {X : Type 0} (text : X → List ℕ) (IsValid : X → Type 0)
   pub short : (c : Cursor) → IsBytes c.left → read c ≡ Err Short → IsFront text IsValid c.left
   pub bad : (c : Cursor) (place : ℕ) → IsBytes c.left → read c ≡ Err (BadByte place) → StopsAt text IsValid read c place
 
--- ---- a byte in a range
+-- ---- a byte that passes a test
 
-pub guard_ok : {A : Type 0} (b : Bool) (d : PacketFault) (x y : A) → cond b (Err d) (Ok x) ≡ Ok y → (b ≡ false) × (x ≡ y)
-guard_ok true d x y e = absurd cc
-guard_ok false d x y e = (refl, cc)
+guard_ok : {A : Type 0} (b : Bool) (d : PacketFault) (x y : A) → cond b (Ok x) (Err d) ≡ Ok y → (b ≡ true) × (x ≡ y)
+guard_ok true d x y e = (refl, cc)
+guard_ok false d x y e = absurd cc
 
-guard_short : {A : Type 0} (b : Bool) (at : ℕ) (x : A) → cond b (Err (BadByte at)) (Ok x) ≡ Err Short → ⊥
+guard_short : {A : Type 0} (b : Bool) (at : ℕ) (x : A) → cond b (Ok x) (Err (BadByte at)) ≡ Err Short → ⊥
 guard_short true at x e = cc
 guard_short false at x e = cc
 
-guard_bad : {A : Type 0} (b : Bool) (at place : ℕ) (x : A) → cond b (Err (BadByte at)) (Ok x) ≡ Err (BadByte place) → (b ≡ true) × (at ≡ place)
-guard_bad true at place x e = (refl, cc)
-guard_bad false at place x e = absurd cc
+guard_bad : {A : Type 0} (b : Bool) (at place : ℕ) (x : A) → cond b (Ok x) (Err (BadByte at)) ≡ Err (BadByte place) → (b ≡ false) × (at ≡ place)
+guard_bad true at place x e = absurd cc
+guard_bad false at place x e = (refl, cc)
 
-module _ (least most : ℕ) where
-  abbrev pub is_outside : ℕ → Bool
-  is_outside b = nat_lt b least || nat_lt most b
+module _ (is_good : ℕ → Bool) (some : ℕ) (some_good : IsTrue (is_good some)) where
+  abbrev IsGood : ℕ → Type 0
+  IsGood b = IsTrue (is_good b)
 
-  abbrev pub IsInside : ℕ → Type 0
-  IsInside b = (least ≤ b) × (b ≤ most)
-
-  in_range : (b : ℕ) → is_outside b ≡ false → IsInside b
-  in_range b h = (grind (arith, nat_tests), grind (arith, nat_tests))
-
-  not_outside : (b : ℕ) → least ≤ b → b ≤ most → is_outside b ≡ false
-  not_outside b low high = grind (arith, nat_tests)
-
-  byte_takes : (at : ℕ) (left : List ℕ) (d : Cursor) (x : ℕ) → byte_in least most at left ≡ Ok (x, d) → Takes (cursor at left) d (x ∷ []) × IsInside x
+  byte_takes : (at : ℕ) (left : List ℕ) (d : Cursor) (x : ℕ) → byte_in is_good at left ≡ Ok (x, d) → Takes (cursor at left) d (x ∷ []) × IsGood x
   byte_takes at [] d x e = absurd cc
   byte_takes at (b ∷ rest) d x e =
       let made : ℕ × Cursor = (b, cursor (at + 1) rest) in
-      let g = guard_ok (is_outside b) (BadByte at) made (x, d) e in
-      subst (λ (p : ℕ × Cursor). Takes (cursor at (b ∷ rest)) p.1 (p.0 ∷ []) × IsInside p.0) g.1 (record { parts = refl; at = refl }, in_range b g.0)
+      let g = guard_ok (is_good b) (BadByte at) made (x, d) e in
+      subst (λ (p : ℕ × Cursor). Takes (cursor at (b ∷ rest)) p.1 (p.0 ∷ []) × IsGood p.0) g.1 (record { parts = refl; at = refl }, g.0)
 
-  byte_short : (at : ℕ) (left : List ℕ) → byte_in least most at left ≡ Err Short → left ≡ []
+  byte_short : (at : ℕ) (left : List ℕ) → byte_in is_good at left ≡ Err Short → left ≡ []
   byte_short at [] e = refl
-  byte_short at (b ∷ rest) e = absurd (guard_short (is_outside b) at (b, cursor (at + 1) rest) e)
+  byte_short at (b ∷ rest) e = absurd (guard_short (is_good b) at (b, cursor (at + 1) rest) e)
 
   -- no byte yet
-  byte_front : least ≤ most → IsFront (λ (b : ℕ). b ∷ []) IsInside []
-  byte_front some = record { whole = least; valid = (omega arith, some); more = least ∷ []; rest = omega arith; parts = refl }
+  byte_front : IsFront (λ (b : ℕ). b ∷ []) IsGood []
+  byte_front = record { whole = some; valid = some_good; more = some ∷ []; rest = omega arith; parts = refl }
 
-  byte_bad : least ≤ most → (at : ℕ) (left : List ℕ) (place : ℕ) → byte_in least most at left ≡ Err (BadByte place) → StopsAt (λ (b : ℕ). b ∷ []) IsInside (byte_at least most) (cursor at left) place
-  byte_bad some at [] place e = absurd cc
-  byte_bad some at (b ∷ rest) place e =
-      let g = guard_bad (is_outside b) at place (b, cursor (at + 1) rest) e in
-      record { before = []; byte = b; after = rest; parts = refl; at = omega (arith, g.1); front = byte_front some; always = λ start other. rw (g.0, add-zero) refl }
+  byte_bad : (at : ℕ) (left : List ℕ) (place : ℕ) → byte_in is_good at left ≡ Err (BadByte place) → StopsAt (λ (b : ℕ). b ∷ []) IsGood (byte_by is_good) (cursor at left) place
+  byte_bad at [] place e = absurd cc
+  byte_bad at (b ∷ rest) place e =
+      let g = guard_bad (is_good b) at place (b, cursor (at + 1) rest) e in
+      record { before = []; byte = b; after = rest; parts = refl; at = omega (arith, g.1); front = byte_front; always = λ start other. rw (g.0, add-zero) refl }
 
-  pub byte_codec : least ≤ most → IsCodec (λ b. b ∷ []) IsInside (byte_at least most)
-  byte_codec some = record {
-    some = least;
-    some_valid = (omega arith, some);
+  pub test_codec : IsCodec (λ b. b ∷ []) (λ b. IsTrue (is_good b)) (byte_by is_good)
+  test_codec = record {
+    some = some;
+    some_valid = some_good;
     takes = λ c d x fits e. byte_takes c.at c.left d x e;
-    again = λ x at rest v. rw (not_outside x v.0 v.1) refl;
-    short = λ c fits e. rw (byte_short c.at c.left e) (byte_front some);
-    bad = λ c place fits e. byte_bad some c.at c.left place e;
+    again = λ x at rest v. rw v refl;
+    short = λ c fits e. rw (byte_short c.at c.left e) byte_front;
+    bad = λ c place fits e. byte_bad c.at c.left place e;
   }
 
 -- ---- one value made of others
@@ -284,6 +276,30 @@ recast {X} {text} {IsValid} {read} text' IsValid' codec to from same =
       short = λ c fits e. front c.left (codec.short c fits e);
       bad = λ c place fits e. let s = codec.bad c place fits e in record { before = s.before; byte = s.byte; after = s.after; parts = s.parts; at = s.at; front = front s.before s.front; always = s.always };
     }
+
+-- ---- a byte in a range, and one of two bytes
+
+in_range : (least most b : ℕ) → IsTrue (is_in_range least most b) → (least ≤ b) × (b ≤ most)
+in_range least most b h = (grind (arith, nat_tests), grind (arith, nat_tests))
+
+is_inside : (least most b : ℕ) → (least ≤ b) × (b ≤ most) → IsTrue (is_in_range least most b)
+is_inside least most b v = let low = v.0 in let high = v.1 in grind (arith, nat_tests)
+
+pub byte_codec : (least most : ℕ) → least ≤ most → IsCodec (λ b. b ∷ []) (λ b. (least ≤ b) × (b ≤ most)) (byte_at least most)
+byte_codec least most some =
+    recast (λ b. b ∷ []) (λ b. (least ≤ b) × (b ≤ most)) (test_codec (is_in_range least most) least (is_inside least most least (omega arith, some)))
+    (is_inside least most) (in_range least most) (λ b v. refl)
+
+one_or_other : (one other b : ℕ) → IsTrue (b == one || b == other) → (b ≡ one) ⊎ (b ≡ other)
+one_or_other one other b h = grind (arith, nat_tests)
+
+is_either : (one other b : ℕ) → (b ≡ one) ⊎ (b ≡ other) → IsTrue (b == one || b == other)
+is_either one other b h = grind (arith, nat_tests)
+
+pub either_codec : (one other : ℕ) → IsCodec (λ b. b ∷ []) (λ b. (b ≡ one) ⊎ (b ≡ other)) (either_at one other)
+either_codec one other =
+    recast (λ b. b ∷ []) (λ b. (b ≡ one) ⊎ (b ≡ other)) (test_codec (λ b. b == one || b == other) one (is_either one other one (inl refl)))
+    (is_either one other) (one_or_other one other) (λ b v. refl)
 
 -- ---- values one after the other
 

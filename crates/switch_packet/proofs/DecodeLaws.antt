@@ -1,5 +1,5 @@
 -- What decoding answers, from what reading gives.
-use Rattle.std.proofs.Common.{◌≡◌, ℕ, ◌≤◌, ◌↔◌, List, ◌++◌, length, take, drop, Result, Ok, Err, IfOk, refl, sym, ap, ◌∙◌}
+use Rattle.std.proofs.Common.{◌≡◌, ℕ, ◌≤◌, ◌↔◌, List, ◌++◌, length, take, drop, Result, Ok, Err, IfOk, sym, ap, ◌∙◌}
 use Rattle.switch_packet.specs.declared.fault.PacketFault.{PacketFault}
 use Rattle.switch_packet.specs.declared.fault.PacketFault.TheVariants.{Short, BadByte}
 use Rattle.switch_packet.specs.Packets.{PlainPacket}

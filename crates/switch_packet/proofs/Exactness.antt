@@ -1,12 +1,12 @@
 -- What a reading function answers for bytes that begin a text, for bytes that are less than one, and for others.
-use Rattle.std.proofs.Common.{◌≡◌, ℕ, zero, suc, ◌+◌, ◌-◌, ◌<◌, ◌≤◌, List, [], ◌∷◌, ◌++◌, length, take, drop, Result, Ok, Err, ◌⊎◌, inl, inr, refl, sym, ap, subst, ◌∙◌, append_assoc, zero-add, add-one, arith}
+use Rattle.std.proofs.Common.{◌≡◌, ℕ, ◌+◌, ◌<◌, ◌≤◌, List, [], ◌∷◌, ◌++◌, length, take, drop, Result, Ok, Err, inl, inr, refl, sym, ap, subst, ◌∙◌, append_assoc, zero-add, arith}
 use Rattle.std.proofs.lemmas.Bool.{cases_lt}
-use Rattle.std.proofs.lemmas.List.{append-nil, length-append, length-take-le, take_at, drop_at, take-append-drop, take-append-le, take-take}
+use Rattle.std.proofs.lemmas.List.{append-nil, length-append, take_at, drop_at, take-append-drop, take-append-le, take-take}
 use Rattle.switch_packet.specs.declared.fault.PacketFault.{PacketFault}
 use Rattle.switch_packet.specs.declared.fault.PacketFault.TheVariants.{Short, BadByte}
 use Rattle.switch_packet.specs.Fronts.{Begins, IsFront, IsBadAt}
 use Rattle.switch_packet.specs.Reading.{Cursor, start}
-use Rattle.switch_packet.proofs.Codecs.{IsBytes, cursor, Takes, StopsAt, IsCodec, ok_is}
+use Rattle.switch_packet.proofs.Codecs.{IsBytes, cursor, StopsAt, IsCodec, ok_is}
 
 module _ {X : Type 0} (text : X → List ℕ) (IsValid : X → Type 0) (read : Cursor → Result (X × Cursor) PacketFault) (codec : IsCodec text IsValid read) where
   -- no text begins another, and each is the text of one value

@@ -1,5 +1,5 @@
 -- How long texts are.
-use Rattle.std.proofs.Common.{◌≡◌, ℕ, zero, suc, ◌+◌, ◌*◌, ◌≤◌, ℤ, List, [], ◌∷◌, ◌++◌, length, refl, arith}
+use Rattle.std.proofs.Common.{◌≡◌, ℕ, ◌+◌, ◌*◌, ◌≤◌, ℤ, List, [], ◌∷◌, length, refl, arith}
 use Rattle.std.specs.List.{flat_map}
 use Rattle.std.proofs.lemmas.List.{length-append}
 use Rattle.txn_model.specs.Needs.{needs_list}
@@ -9,7 +9,7 @@ use Rattle.txn_model.specs.declared.op.Need.{Need}
 use Rattle.switch_packet.specs.declared.limits.TheConstants.{LONGEST_TEXT}
 use Rattle.switch_packet.specs.declared.packet.PacketOp.{PacketOp}
 use Rattle.switch_packet.specs.Packets.{PlainPacket}
-use Rattle.switch_packet.specs.Ranges.{OpFits, OpsFit, Fits, act_numbers}
+use Rattle.switch_packet.specs.Ranges.{OpsFit, Fits, act_numbers}
 use Rattle.switch_packet.specs.PacketText.{i64_text, need_text, op_text, packet_text}
 use Rattle.switch_packet.proofs.NeedsLaws.{length-needs_list-le, none_below}
 

@@ -8,3 +8,4 @@ pub mod Exactness
 pub mod DecodeLaws
 pub mod ReplayLaws
 pub mod LengthLaws
+pub mod RangeLaws

@@ -1,21 +1,21 @@
 -- Numbers are read and spelled alike.
-use Rattle.std.proofs.Common.{◌≡◌, ℕ, zero, suc, ℤ, ◌+◌, ◌-◌, ◌<◌, ◌≤◌, ◌^◌, Bool, true, false, cond, ltb, nat_lt, List, [], ◌∷◌, ◌++◌, length, get_or, replicate, take, drop, Result, Ok, Err, refl, sym, ap, subst, ◌∙◌, arith, rules, SFits}
+use Rattle.std.proofs.Common.{◌≡◌, ℕ, zero, suc, ◌+◌, ◌-◌, ◌<◌, ◌≤◌, ◌^◌, Bool, true, false, cond, ltb, nat_lt, List, [], ◌∷◌, ◌++◌, length, replicate, take, drop, Ok, Err, refl, sym, ap, subst, ◌∙◌, arith}
 use Rattle.std.specs.Int.{Width, w16, w32, w64, byte_len, to_be_bytes, from_be_bytes, cast_unsigned, cast_signed}
 use Rattle.std.specs.Int as int
 use Rattle.std.specs.Prelude.{FitsSigned}
 use Rattle.std.proofs.Math.Facts.{Fits-of_z, Fits-lt-pow, Fits-bits, sfits_to_z}
 use Rattle.std.proofs.lemmas.Bool.{ltb-false, ltb-true, le-ltb}
 use Rattle.std.proofs.lemmas.Int.{to_z-of_z, of_z-to_z}
-use Rattle.std.proofs.lemmas.List.{take_at, drop_at, take-append-drop, length-append, length-take, length-drop, length-replicate, append-nil}
+use Rattle.std.proofs.lemmas.List.{take_at, drop_at, take-append-drop, length-append, length-take, length-replicate, append-nil}
 use Rattle.std.proofs.lemmas.Nat.{be_bytes_2, be_bytes_4, be_bytes_8, from_be_bytes-to_be_bytes_2, from_be_bytes-to_be_bytes_4, from_be_bytes-to_be_bytes_8}
 use Rattle.switch_packet.specs.declared.fault.PacketFault.{PacketFault}
 use Rattle.switch_packet.specs.declared.fault.PacketFault.TheVariants.{Short, BadByte}
 use Rattle.switch_packet.specs.declared.limits.TheConstants.{CELLS}
 use Rattle.switch_packet.specs.Fronts.{IsFront}
 use Rattle.switch_packet.specs.PacketText.{i64_text}
-use Rattle.switch_packet.specs.Reading.{Cursor, ◌>>=◌, byte_at, zeros_at, number_at, u32_at, u64_at, i64_at}
+use Rattle.switch_packet.specs.Reading.{Cursor, zeros_at, number_at, u32_at, u64_at, i64_at}
 use Rattle.switch_packet.specs.PacketReading.{cell_at}
-use Rattle.switch_packet.proofs.Codecs.{IsBytes, IsBytes-left, IsBytes-right, IsBytes-append, IsBytes-zeros, cursor, Takes, StopsAt, IsCodec, guard_ok, byte_codec, done_codec, field_codec, recast}
+use Rattle.switch_packet.proofs.Codecs.{IsBytes, IsBytes-left, IsBytes-append, IsBytes-zeros, cursor, Takes, IsCodec, byte_codec, done_codec, field_codec, recast}
 
 -- numbers of this width and their bytes determine each other
 record IsWide (w : Width) (limit : ℕ) : Type 0 where
@@ -42,6 +42,10 @@ wide64 = record {
   again = λ n lt. from_be_bytes-to_be_bytes_8 n lt;
   below = λ bytes fits. omega (arith, fits 0, fits 1, fits 2, fits 3, fits 4, fits 5, fits 6, fits 7);
 }
+
+guard_ok : {A : Type 0} (b : Bool) (d : PacketFault) (x y : A) → cond b (Err d) (Ok x) ≡ Ok y → (b ≡ false) × (x ≡ y)
+guard_ok true d x y e = absurd cc
+guard_ok false d x y e = (refl, cc)
 
 guard_err : {A : Type 0} (b : Bool) (d e : PacketFault) (x : A) → cond b (Err d) (Ok x) ≡ Err e → (b ≡ true) × (d ≡ e)
 guard_err true d e x h = (refl, cc)

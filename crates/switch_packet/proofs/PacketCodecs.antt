@@ -1,5 +1,5 @@
 -- Packets are read and spelled alike.
-use Rattle.std.proofs.Common.{◌≡◌, ℕ, zero, suc, ℤ, pos, ◌+◌, ◌-◌, ◌<◌, ◌≤◌, ◌^◌, Bool, true, false, cond, ◌==◌, ◌||◌, IsTrue, List, [], ◌∷◌, ◌++◌, length, replicate, Result, Ok, Err, refl, sym, ap, subst, ◌∙◌, append_assoc, arith, rules}
+use Rattle.std.proofs.Common.{◌≡◌, ℕ, zero, suc, ℤ, pos, ◌+◌, ◌-◌, ◌<◌, ◌≤◌, ◌^◌, Bool, true, false, cond, ◌==◌, ◌||◌, IsTrue, List, [], ◌∷◌, ◌++◌, length, refl, sym, ap, subst, ◌∙◌, arith, rules}
 use Rattle.std.specs.Prelude.{FitsSigned}
 use Rattle.std.specs.Int.{w16, w32, w64, to_be_bytes}
 use Rattle.std.specs.List.{flat_map, AllByRecursion}
@@ -14,18 +14,17 @@ use Rattle.txn_model.specs.declared.op.Needs.{Needs}
 use Rattle.txn_model.specs.declared.op.Needs.TheVariants.{Zero, One, Two, Three, Four}
 use Rattle.txn_model.specs.declared.op.Which.{Which}
 use Rattle.txn_model.specs.declared.op.Which.TheVariants.{Old, Moved}
-use Rattle.switch_packet.specs.declared.fault.PacketFault.{PacketFault}
-use Rattle.switch_packet.specs.declared.format.TheConstants.{PACKET_MARK, VERSION, READ, CHOOSE, OLD, MOVED}
-use Rattle.switch_packet.specs.declared.limits.TheConstants.{CLIENTS, MOST_PASSES, BOTH_HALVES, MOST_PACKET_OPS, MOST_NEEDS, STAGES, ARRAYS, CELLS}
+use Rattle.switch_packet.specs.declared.format.TheConstants.{PACKET_MARK, VERSION}
+use Rattle.switch_packet.specs.declared.limits.TheConstants.{CLIENTS, MOST_PASSES, BOTH_HALVES, MOST_PACKET_OPS, STAGES, ARRAYS, CELLS}
 use Rattle.switch_packet.specs.declared.decode.OpHead.{OpHead}
 use Rattle.switch_packet.specs.declared.decode.PacketHead.{PacketHead}
 use Rattle.switch_packet.specs.declared.packet.PacketOp.{PacketOp}
 use Rattle.switch_packet.specs.Packets.{PlainPacket}
-use Rattle.switch_packet.specs.Ranges.{IsOneTo, OpFits, OpsFit, Fits, act_numbers, OpIsTyped, IsTyped, IsPacket}
+use Rattle.switch_packet.specs.Ranges.{IsOneTo, OpFits, OpsFit, act_numbers, OpIsTyped, IsPacket}
 use Rattle.switch_packet.specs.PacketText.{i64_text, act_byte, which_byte, need_text, op_text, packet_text}
-use Rattle.switch_packet.specs.Reading.{Cursor, ◌>>=◌, byte_at, i64_at, each_at}
-use Rattle.switch_packet.specs.PacketReading.{cell_at, most_needs, op_head_at, bias_at, act_at, which_of, need_at, needs_of, needs_at, op_at, packet_head_at, packet_at}
-use Rattle.switch_packet.proofs.Codecs.{IsCodec, EachIs, AreValid, byte_codec, field_codec, done_codec, recast, each_codec}
+use Rattle.switch_packet.specs.Reading.{each_at}
+use Rattle.switch_packet.specs.PacketReading.{most_needs, op_head_at, bias_at, act_at, which_of, need_at, needs_of, needs_at, op_at, packet_head_at, packet_at}
+use Rattle.switch_packet.proofs.Codecs.{IsCodec, EachIs, byte_codec, field_codec, done_codec, recast, each_codec}
 use Rattle.switch_packet.proofs.NumberCodecs.{u32_codec, i64_codec, zeros_codec, cell_codec}
 use Rattle.switch_packet.proofs.NeedsLaws.{needs_of-needs_list, needs_list-needs_of, length-needs_list-le, none_below}
 

@@ -1,13 +1,12 @@
 -- Replays of packets and of lists of packets.
-use Rattle.std.proofs.Common.{◌≡◌, ◌+◌, List, [], ◌∷◌, ◌++◌, length, refl, ap, ◌∙◌, arith}
+use Rattle.std.proofs.Common.{◌≡◌, ◌+◌, List, [], ◌∷◌, ◌++◌, length, refl, ap, arith}
 use Rattle.std.specs.FinMap as fin
 use Rattle.std.proofs.lemmas.List.{length_push}
 use Rattle.txn_model.specs.Places.{Places}
 use Rattle.txn_model.specs.declared.pairs.Pair.{Pair}
 use Rattle.switch_packet.specs.Laws.{OnePairEach, ReplaysInTurn}
 use Rattle.switch_packet.specs.declared.packet.PacketOp.{PacketOp}
-use Rattle.switch_packet.specs.Packets.{PlainPacket}
-use Rattle.switch_packet.specs.Replay.{Replayed, ReplayedAll, register_at, packet_pair, replay_from, replay, replay_all}
+use Rattle.switch_packet.specs.Replay.{ReplayedAll, register_at, packet_pair, replay_from, replay, replay_all}
 
 -- the operations of a, and then those of b
 pub replay_from-append : (a b : List PacketOp) (done : List Pair) (m : Places) → replay_from (a ++ b) done m ≡ replay_from b (replay_from a done m).pairs (replay_from a done m).after

@@ -1,5 +1,5 @@
 -- Reading a packet from left to right, with the first fault that is met.
-use Rattle.std.specs.Prelude.{◌≡◌, drop, ℕ, zero, suc, ℤ, pos, ◌+◌, ◌-◌, ◌/◌, List, [], ◌∷◌, Result, Ok, Err, ◌||◌, ◌==◌, if◌then◌else◌}
+use Rattle.std.specs.Prelude.{◌≡◌, drop, ℕ, zero, suc, ℤ, pos, ◌-◌, ◌/◌, List, [], ◌∷◌, Result, Ok, Err, ◌||◌, ◌==◌, if◌then◌else◌}
 use Rattle.std.specs.Int.{w16, from_be_bytes}
 use Rattle.txn_model.specs.declared.op.Act.{Act}
 use Rattle.txn_model.specs.declared.op.Act.TheVariants.{Read, Put, Add, Choose}

@@ -14,7 +14,7 @@ use Rattle.switch_packet.specs.Packets.{PlainPacket}
 abbrev pub IsOneTo : ℕ → ℕ → Type 0
 IsOneTo most n = (1 ≤ n) × (n ≤ most)
 
--- operation k of a packet of so many passes is in its ranges
+-- operation k of a packet of so many passes has its fields in their ranges
 pub record OpFits (passes k : ℕ) (op : PacketOp) : Type 0 where
   pub pass : IsOneTo passes op.pass
   pub stage : op.place.stage < STAGES
@@ -23,12 +23,12 @@ pub record OpFits (passes k : ℕ) (op : PacketOp) : Type 0 where
   pub earlier : AllByRecursion (λ need. need.from < k) (needs_list op.needs)
   pub read : IsTrue (is_read op.act) → (op.bias ≡ pos 0) × (needs_list op.needs ≡ [])
 
--- the operations are, the first of them being operation k
+-- so have the operations from operation k on
 abbrev pub OpsFit : ℕ → ℕ → List PacketOp → Type 0
 OpsFit passes k [] = Unit {0}
 OpsFit passes k (op ∷ ops) = OpFits passes k op × OpsFit passes (k + 1) ops
 
--- the packet is
+-- the packet has its fields in their ranges, and its operations theirs
 pub record Fits (p : PlainPacket) : Type 0 where
   pub client : p.client < CLIENTS
   pub passes : IsOneTo MOST_PASSES p.passes

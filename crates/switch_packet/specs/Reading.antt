@@ -1,6 +1,6 @@
 -- Reading from left to right, with the first fault that is met.
-use Rattle.std.specs.Prelude.{◌≡◌, ℕ, zero, suc, ℤ, pos, ◌+◌, ◌-◌, ◌/◌, List, [], ◌∷◌, length, take, drop, Result, Ok, Err, nat_lt, ◌||◌, ◌==◌, if◌then◌else◌}
-use Rattle.std.specs.Int.{Width, w16, w32, w64, byte_len, from_be_bytes, cast_signed}
+use Rattle.std.specs.Prelude.{◌≡◌, Bool, ℕ, zero, suc, ℤ, ◌+◌, List, [], ◌∷◌, length, take, drop, Result, Ok, Err, nat_lt, ◌||◌, ◌==◌, if◌then◌else◌}
+use Rattle.std.specs.Int.{Width, w32, w64, byte_len, from_be_bytes, cast_signed, is_in_range}
 use Rattle.switch_packet.specs.declared.fault.PacketFault.{PacketFault}
 use Rattle.switch_packet.specs.declared.fault.PacketFault.TheVariants.{Short, BadByte}
 
@@ -29,13 +29,21 @@ ReadsAs x new (Err e) read = read ≡ Err e
 
 -- ---- numbers
 
-abbrev pub byte_in : ℕ → ℕ → ℕ → List ℕ → Result (ℕ × Cursor) PacketFault
-byte_in least most at [] = Err Short
-byte_in least most at (b ∷ rest) = if nat_lt b least || nat_lt most b then Err (BadByte at) else Ok (b, record { at = at + 1; left = rest })
+abbrev pub byte_in : (ℕ → Bool) → ℕ → List ℕ → Result (ℕ × Cursor) PacketFault
+byte_in is_good at [] = Err Short
+byte_in is_good at (b ∷ rest) = if is_good b then Ok (b, record { at = at + 1; left = rest }) else Err (BadByte at)
+
+-- one byte that passes the test
+abbrev pub byte_by : (ℕ → Bool) → Cursor → Result (ℕ × Cursor) PacketFault
+byte_by is_good c = byte_in is_good c.at c.left
 
 -- one byte, from least to most
 abbrev pub byte_at : ℕ → ℕ → Cursor → Result (ℕ × Cursor) PacketFault
-byte_at least most c = byte_in least most c.at c.left
+byte_at least most c = byte_by (is_in_range least most) c
+
+-- one of two bytes
+abbrev pub either_at : ℕ → ℕ → Cursor → Result (ℕ × Cursor) PacketFault
+either_at one other c = byte_by (λ b. b == one || b == other) c
 
 -- so many bytes, each of them 0
 unfoldable pub zeros_at : ℕ → Cursor → Result (Unit {0} × Cursor) PacketFault

@@ -1,7 +1,7 @@
 //! Reading texts from left to right, each byte judged as soon as it is reached.
 
-ghost use Rattle.std.specs.Prelude.{◌≡◌, ◌≤◌, IfOk};
-ghost use Rattle.switch_packet.specs.Reading.{Cursor, Reads, start, byte_at, zeros_at, u32_at, u64_at, i64_at};
+ghost use Rattle.std.specs.Prelude.{◌≡◌, ◌≤◌, ◌⊎◌, ◌↔◌, [], ◌∷◌, IfOk, IsTrue, MatchResult};
+ghost use Rattle.switch_packet.specs.Reading.{Cursor, Reads, start, byte_at, either_at, zeros_at, u32_at, u64_at, i64_at};
 
 use crate::fault::PacketFault;
 use std::marker::Model;
@@ -40,22 +40,56 @@ impl<'a> Reader<'a> {
         self.at
     }
 
+    /// Whether no byte is left.
+    pub fn is_at_end(&self) -> bool
+        ensures { IsTrue result ↔ (self.now.left ≡ []) }
+    {
+        self.left.is_empty()
+    }
+
+    /// The next byte, and the bytes behind it.
+    fn front(&self) -> Result<(u8, &'a [u8]), PacketFault>
+        ensures { MatchResult result (λ front. self.now.left ≡ front.0 ∷ front.1.now)
+            (λ fault. (fault ≡ PacketFault.Short) × (self.now.left ≡ [])) }
+    {
+        match self.left {
+            [] => Err(PacketFault::Short),
+            [byte, rest @ ..] => Ok((*byte, rest)),
+        }
+    }
+
+    fn bad_byte(&self) -> PacketFault
+        ensures { result ≡ PacketFault.BadByte self.now.at }
+    {
+        PacketFault::BadByte(self.at)
+    }
+
     /// The next byte, which is to be `least` to `most`.
     pub fn byte(&mut self, least: u8, most: u8) -> Result<u8, PacketFault>
         ensures value { Reads self.new result (byte_at least most self.old) }
         ensures range { IfOk result (λ byte. (least ≤ byte) × (byte ≤ most)) }
     {
-        match self.left {
-            [] => Err(PacketFault::Short),
-            [byte, rest @ ..] => {
-                if *byte < least || *byte > most {
-                    return Err(PacketFault::BadByte(self.at));
-                }
-                self.at += 1;
-                self.left = rest;
-                Ok(*byte)
-            }
+        let (byte, rest) = self.front()?;
+        if byte < least || byte > most {
+            return Err(self.bad_byte());
         }
+        self.at += 1;
+        self.left = rest;
+        Ok(byte)
+    }
+
+    /// The next byte, which is to be one of two.
+    pub fn either(&mut self, one: u8, other: u8) -> Result<u8, PacketFault>
+        ensures value { Reads self.new result (either_at one other self.old) }
+        ensures choice { IfOk result (λ byte. (byte ≡ one) ⊎ (byte ≡ other)) }
+    {
+        let (byte, rest) = self.front()?;
+        if byte != one && byte != other {
+            return Err(self.bad_byte());
+        }
+        self.at += 1;
+        self.left = rest;
+        Ok(byte)
     }
 
     /// The next bytes, each of which is to be 0: this many.

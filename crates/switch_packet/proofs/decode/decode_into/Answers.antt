@@ -1,6 +1,5 @@
 use Rattle.std.proofs.Common.{arith}
 use Rattle.switch_packet.specs.Packets.{plain}
-use Rattle.switch_packet.proofs.Codecs.{IsBytes}
 use Rattle.switch_packet.proofs.DecodeLaws.{decoded_found, decoded_only, decoded_short, decoded_bad}
 use Rattle.switch_packet.proofs.decode.decode_into.Goals as goal
 

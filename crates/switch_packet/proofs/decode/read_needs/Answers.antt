@@ -1,9 +1,8 @@
-use Rattle.std.proofs.Common.{◌≡◌, ◌+◌, length, refl, sym, ap, ◌∙◌, arith, Result, Ok, Err}
+use Rattle.std.proofs.Common.{refl, arith}
 use Rattle.std.proofs.lemmas.List.{length_push}
 use Rattle.std.proofs.lemmas.Result.{err_from_is_err_and}
 use Rattle.txn_model.specs.Needs.{needs_list}
-use Rattle.switch_packet.specs.Reading.{◌>>=◌}
-use Rattle.switch_packet.specs.PacketReading.{need_at, needs_of, needs_at}
+use Rattle.switch_packet.specs.PacketReading.{need_at, needs_at}
 use Rattle.switch_packet.proofs.Loops.{each_more, each_fails, each_done}
 use Rattle.switch_packet.proofs.NeedsLaws.{needs_of-needs_list}
 use Rattle.switch_packet.proofs.decode.read_needs.Goals as goal

@@ -1,4 +1,4 @@
-use Rattle.std.proofs.Common.{◌≡◌, ◌+◌, ◌-◌, ◌≤◌, length}
+use Rattle.std.proofs.Common.{◌≡◌, ◌+◌, ◌-◌, length}
 use Rattle.switch_packet.specs.Reading.{each_at}
 use Rattle.switch_packet.specs.PacketReading.{op_at}
 use Rattle.switch_packet.proofs.Loops.{with_front}
