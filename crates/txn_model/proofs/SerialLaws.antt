@@ -1,5 +1,5 @@
 -- What a sound script's needs read, and one step of its serial execution.
-use Rattle.std.proofs.Common.{◌≡◌, ℕ, zero, suc, ◌+◌, ◌<◌, ◌≤◌, Bool, true, false, cond, not, ◌||◌, ◌==◌, nat_lt, ℤ, ◌+ℤ◌, pos, List, [], ◌∷◌, ◌++◌, drop, take, set, length, slice_get, Option, Some, None, IsSome, is_some, if◌then◌else◌, refl, sym, ap, subst, ◌∙◌, arith, drop_of_length-le}
+use Rattle.std.proofs.Common.{◌≡◌, ℕ, zero, suc, ◌+◌, ◌<◌, ◌≤◌, Bool, true, false, cond, not, ◌||◌, ◌==◌, nat_lt, ℤ, ◌+ℤ◌, pos, List, [], ◌∷◌, ◌++◌, drop, take, set, length, slice_get, Option, Some, None, IsSome, is_some, if◌then◌else◌, refl, sym, ap, subst, ◌∙◌, arith, drop_of_length-le, length-append}
 use Rattle.std.specs.List.{list_any, AllByRecursion}
 use Rattle.std.specs.FinMap as fin
 use Rattle.std.proofs.lemmas.Bool.Decides.{nat_tests}
@@ -8,7 +8,7 @@ use Rattle.txn_model.specs.Number.{wrap}
 use Rattle.txn_model.specs.Needs.{needs_list}
 use Rattle.txn_model.specs.Tuples.{Tuples, value_at}
 use Rattle.txn_model.specs.ScriptCheck.{script_fault, first_of, first_bad_use, first_repeat, uses_badly, is_read}
-use Rattle.txn_model.specs.Serial.{needed, part_of, pair_at, operand, effect, pair_of, serial_from}
+use Rattle.txn_model.specs.Serial.{needed, part_of, pair_at, operand, effect, pair_of, serial, serial_from, serial_run}
 use Rattle.txn_model.specs.declared.op.Need.{Need}
 use Rattle.txn_model.specs.declared.op.Op.{Op}
 use Rattle.txn_model.specs.declared.op.TupleId.{TupleId}
@@ -123,3 +123,38 @@ there-insert m t v (op ∷ ops) h =
 pub below_more_room : (i n : ℕ) → i ≤ n → (ns : List Need) → AllByRecursion (λ k. k.from < i) ns → AllByRecursion (λ k. k.from < n) ns
 below_more_room i n le [] h = tt
 below_more_room i n le (k ∷ ns) h = (omega (arith, h.0), below_more_room i n le ns h.1)
+
+-- a sound script has at most 16 operations
+pub sound_length : (ops : List Op) → script_fault ops ≡ None → length ops ≤ 16
+unfolding script_fault
+sound_length ops h =
+    let uses = first_of (first_bad_use 0 ops) BadUse None in
+    let repeats = first_of (first_repeat [] ops) TupleTwice uses in
+    let size = if nat_lt 16 (length ops) then Some (TooLong (length ops)) else repeats in
+    let few = (skip_if (nat_lt 16 (length ops)) (TooLong (length ops)) repeats (skip_if (length ops == 0) Empty size h).1).0 in
+    not_above 16 (length ops) few
+  where
+    not_above : (a b : ℕ) → nat_lt a b ≡ false → b ≤ a
+    not_above a b e = grind (arith, nat_tests)
+
+-- a script leaves each tuple that was there
+pub there-serial_from : (ops : List Op) (done : List Pair) (m : Tuples) (named : List Op) → AllByRecursion (λ op. IsSome (fin.get m op.tuple)) named → AllByRecursion (λ op. IsSome (fin.get (serial_from ops done m).after op.tuple)) named
+unfolding serial_from
+there-serial_from [] done m named h = h
+there-serial_from (op ∷ ops) done m named h =
+    let pair = pair_of op done (value_at m op.tuple) in
+    there-serial_from ops (done ++ pair ∷ []) (fin.insert m op.tuple pair.now) named (there-insert m op.tuple pair.now named h)
+
+-- a reply has a pair for each operation
+pub length-serial_from : (ops : List Op) (done : List Pair) (m : Tuples) → length (serial_from ops done m).reply ≡ length done + length ops
+unfolding serial_from
+length-serial_from [] done m = omega arith
+length-serial_from (op ∷ ops) done m =
+    let pair = pair_of op done (value_at m op.tuple) in
+    omega (arith, length-serial_from ops (done ++ pair ∷ []) (fin.insert m op.tuple pair.now), length-append done (pair ∷ []))
+
+-- a serial run has a reply for each script
+pub length-replies : (scripts : List (List Op)) (m : Tuples) → length (serial_run scripts m).replies ≡ length scripts
+unfolding serial_run
+length-replies [] m = refl
+length-replies (s ∷ ss) m = ap suc (length-replies ss (serial s m).after)

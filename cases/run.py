@@ -1,0 +1,68 @@
+#!/usr/bin/env python3
+"""Runs the built program on each case folder beside this file, and compares what it answers.
+
+usage: cases/run.py PROGRAM [CASE ..]
+
+A case is a folder with any of these files; what is absent is empty, and the status is then 0.
+  args          the words of the command line, one a line
+  stdin         standard input, or stdin.py, whose standard output is taken as that
+  stdout        what the program must write to standard output, every byte
+  stderr        what it must write to standard error, every byte
+  status        the exit status
+  seconds       how long it may take (else 60)
+"""
+import pathlib
+import subprocess
+import sys
+import tempfile
+
+HERE = pathlib.Path(__file__).resolve().parent
+
+
+def content(path):
+    return path.read_bytes() if path.is_file() else b""
+
+
+def stdin_of(case):
+    maker = case / "stdin.py"
+    if maker.is_file():
+        return subprocess.run([sys.executable, str(maker)], stdout=subprocess.PIPE, check=True).stdout
+    return content(case / "stdin")
+
+
+def first_difference(got, wanted):
+    at = next((i for i, (a, b) in enumerate(zip(got, wanted)) if a != b), min(len(got), len(wanted)))
+    return f"differs first at byte {at}: got {got[at:at + 60]!r}, wanted {wanted[at:at + 60]!r}"
+
+
+def faults_of(case, program, folder):
+    words = content(case / "args").decode().splitlines()
+    limit = float(content(case / "seconds").decode() or 60)
+    try:
+        ran = subprocess.run([program, *words], input=stdin_of(case), capture_output=True, cwd=folder, timeout=limit)
+    except subprocess.TimeoutExpired:
+        return [f"had not ended after {limit:g} seconds"]
+    status = int(content(case / "status").decode() or 0)
+    faults = [] if ran.returncode == status else [f"ended with status {ran.returncode}, and not {status}"]
+    for name, got in (("stdout", ran.stdout), ("stderr", ran.stderr)):
+        wanted = content(case / name)
+        if got != wanted:
+            faults.append(f"{name} {first_difference(got, wanted)}")
+    return faults
+
+
+def main():
+    program = str(pathlib.Path(sys.argv[1]).resolve())
+    cases = [HERE / name for name in sys.argv[2:]] or sorted(it for it in HERE.iterdir() if it.is_dir())
+    passed = failed = 0
+    for case in cases:
+        with tempfile.TemporaryDirectory(prefix="p4db-case-") as folder:
+            faults = faults_of(case, program, folder)
+        for fault in faults:
+            print(f"case {case.name}: {fault}")
+        passed, failed = passed + (not faults), failed + bool(faults)
+    print(f"cases: {passed} passed, {failed} failed", flush=True)
+    return 1 if failed or not passed else 0
+
+
+sys.exit(main())

@@ -1,0 +1,4 @@
+pub mod Causes
+pub mod Known
+pub mod Logs
+pub mod Taken

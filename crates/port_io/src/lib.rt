@@ -1,0 +1,28 @@
+//! The edge of the program: where its bytes come from, where they go, and where its logs stand.
+//!
+//! `Source`, `Sink` and `LogRack` are all that the layers above know of the outside. Each has forms
+//! in memory, which tell what they hold, and forms over the process's own streams, which tell
+//! nothing. A call answers that it failed only where the object's count of failures rose.
+#![tactic(auto)]
+
+mod calls;
+mod clean;
+mod log_rack;
+mod mem;
+mod sink;
+mod source;
+mod stdio;
+mod whole;
+mod word;
+
+pub use clean::{CleanRack, CleanSink, CleanSource};
+pub use log_rack::{LogRack, RackFault};
+pub use mem::{MemSink, MemSource};
+pub use sink::{Sink, SinkFault};
+pub use source::{Failed, Source};
+pub use stdio::{StdSink, StdSource};
+pub use whole::{ReadAllFault, read_all, write_all};
+pub use word::Word;
+
+#[cfg(test)]
+mod tests;

@@ -1,0 +1,5 @@
+pub mod Report
+pub mod Words
+pub mod Lines
+pub mod ReportText
+pub mod Views
