@@ -19,6 +19,7 @@ use Rattle.switch_packet.specs.Reading.{Cursor, ◌>>=◌, byte_at, zeros_at, u3
 
 -- ---- operations
 
+-- a cell, the highest byte first
 unfoldable pub cell_at : Cursor → Result (ℕ × Cursor) PacketFault
 cell_at c = do
   high ← byte_at 0 ((CELLS - 1) / 256) c
@@ -38,8 +39,8 @@ op_head_at passes k c = do
   act ← byte_at READ CHOOSE array.1
   cell ← cell_at act.1
   needs ← byte_at 0 (most_needs act.0 k) cell.1
-  filler ← byte_at 0 0 needs.1
-  Ok (record { pass = pass.0; place = record { stage = stage.0; array = array.0; cell = cell.0 }; act = act.0; needs = needs.0 }, filler.1)
+  reserved ← byte_at 0 0 needs.1
+  Ok (record { pass = pass.0; place = record { stage = stage.0; array = array.0; cell = cell.0 }; act = act.0; needs = needs.0 }, reserved.1)
 
 -- the bias of an operation whose act has this byte
 unfoldable pub bias_at : ℕ → Cursor → Result (ℤ × Cursor) PacketFault
@@ -48,7 +49,7 @@ bias_at zero c = do
   Ok (pos 0, zeros.1)
 bias_at (suc act) c = i64_at c
 
--- the numbers of the act that has this byte
+-- the act that has this byte: read, put, add and choose in this order
 unfoldable pub act_at : ℕ → Cursor → Result (Act × Cursor) PacketFault
 act_at zero c = Ok (Read, c)
 act_at (suc zero) c = do
@@ -63,6 +64,7 @@ act_at (suc (suc (suc act))) c = do
   below ← i64_at above.1
   Ok (Choose limit.0 above.0 below.0, below.1)
 
+-- what this byte stands for
 abbrev pub which_of : ℕ → Which
 which_of zero = Old
 which_of (suc b) = Moved
@@ -74,6 +76,7 @@ need_at k c = do
   which ← byte_at OLD MOVED from.1
   Ok (record { from = from.0; which = which_of which.0 }, which.1)
 
+-- the needs that have this list, which has at most four
 abbrev pub needs_of : List Need → Needs
 needs_of [] = Zero
 needs_of (a ∷ []) = One a
@@ -104,21 +107,22 @@ packet_head_at c = do
   mark ← byte_at PACKET_MARK PACKET_MARK c
   version ← byte_at VERSION VERSION mark.1
   client ← byte_at 0 (CLIENTS - 1) version.1
-  filler ← byte_at 0 0 client.1
-  seq ← u32_at filler.1
+  reserved ← byte_at 0 0 client.1
+  seq ← u32_at reserved.1
   passes ← byte_at 1 MOST_PASSES seq.1
   halves ← byte_at 1 BOTH_HALVES passes.1
   ops ← byte_at 1 MOST_PACKET_OPS halves.1
-  last ← byte_at 0 0 ops.1
-  Ok (record { client = client.0; seq = seq.0; passes = passes.0; halves = halves.0; ops = ops.0 }, last.1)
+  reserved_too ← byte_at 0 0 ops.1
+  Ok (record { client = client.0; seq = seq.0; passes = passes.0; halves = halves.0; ops = ops.0 }, reserved_too.1)
 
+-- a packet
 unfoldable pub packet_at : Cursor → Result (PlainPacket × Cursor) PacketFault
 packet_at c = do
   head ← packet_head_at c
   ops ← each_at (op_at head.0.passes) 0 head.0.ops head.1
   Ok (record { client = head.0.client; seq = head.0.seq; passes = head.0.passes; halves = head.0.halves; ops = ops.0 }, ops.1)
 
--- What decoding answered is what reading gives.
+-- what decoding answered is what reading gives
 abbrev pub Decodes : PlainPacket → List ℕ → Result ℕ PacketFault → Result (PlainPacket × Cursor) PacketFault → Type 0
 Decodes to bytes (Ok n) read = read ≡ Ok (to, record { at = n; left = drop n bytes })
 Decodes to bytes (Err e) read = read ≡ Err e

@@ -13,19 +13,23 @@ use Rattle.switch_packet.specs.declared.packet.PacketOp.{PacketOp}
 use Rattle.switch_packet.specs.Packets.{PlainPacket}
 use Rattle.switch_packet.specs.Ranges.{act_numbers}
 
+-- a signed number in 8 bytes
 abbrev pub i64_text : ℤ → List ℕ
 i64_text z = to_be_bytes w64 (cast_unsigned w64 z)
 
+-- which act it is
 abbrev pub act_byte : Act → ℕ
 act_byte Read = READ
 act_byte (Put base) = PUT
 act_byte (Add base) = ADD
 act_byte (Choose limit above below) = CHOOSE
 
+-- which part of an earlier pair is needed
 abbrev pub which_byte : Which → ℕ
 which_byte Old = OLD
 which_byte Moved = MOVED
 
+-- the operation that is needed, and which part of its pair
 abbrev pub need_text : Need → List ℕ
 need_text need = need.from ∷ which_byte need.which ∷ []
 

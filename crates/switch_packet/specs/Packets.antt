@@ -7,6 +7,7 @@ use Rattle.switch_packet.specs.declared.record.Intent.{Intent}
 use Rattle.switch_packet.specs.declared.record.Outcome.{Outcome}
 use Rattle.switch_packet.specs.declared.record.LogView.{LogView}
 
+-- a packet
 pub record PlainPacket : Type 0 where
   pub client : ℕ
   pub seq : ℕ
@@ -14,6 +15,7 @@ pub record PlainPacket : Type 0 where
   pub halves : ℕ
   pub ops : List PacketOp
 
+-- a packet as it is held, seen so
 abbrev pub plain : Packet → PlainPacket
 plain p = record { client = p.client; seq = p.seq; passes = p.passes; halves = p.halves; ops = p.ops.items }
 
@@ -21,6 +23,7 @@ plain p = record { client = p.client; seq = p.seq; passes = p.passes; halves = p
 abbrev pub blank_packet : PlainPacket
 blank_packet = record { client = 0; seq = 0; passes = 0; halves = 0; ops = [] }
 
+-- what stands in a log before a packet is posted
 pub record PlainIntent : Type 0 where
   pub floor : ℕ
   pub packet : PlainPacket
@@ -28,6 +31,7 @@ pub record PlainIntent : Type 0 where
 abbrev pub plain_intent : Intent → PlainIntent
 plain_intent i = record { floor = i.floor; packet = plain i.packet }
 
+-- what stands in a log before the caller has the answer
 pub record PlainOutcome : Type 0 where
   pub seq : ℕ
   pub number : ℕ
@@ -36,6 +40,7 @@ pub record PlainOutcome : Type 0 where
 abbrev pub plain_outcome : Outcome → PlainOutcome
 plain_outcome o = record { seq = o.seq; number = o.number; pairs = o.pairs.items }
 
+-- what a log says: the k-th outcome answers the k-th intent
 pub record PlainLog : Type 0 where
   pub intents : List PlainIntent
   pub outcomes : List PlainOutcome

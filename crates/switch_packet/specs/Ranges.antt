@@ -43,16 +43,17 @@ act_numbers (Put base) = base ∷ []
 act_numbers (Add base) = base ∷ []
 act_numbers (Choose limit above below) = limit ∷ above ∷ below ∷ []
 
--- the numbers are those of their types, as in every packet that a program holds
+-- the signed numbers are those of their type, as in every operation that a program holds
 pub record OpIsTyped (op : PacketOp) : Type 0 where
   pub bias : FitsSigned w64 op.bias
   pub act : AllByRecursion (FitsSigned w64) (act_numbers op.act)
 
+-- all numbers are those of their types, as in every packet that a program holds
 pub record IsTyped (p : PlainPacket) : Type 0 where
   pub seq : p.seq < 2 ^ 32
   pub ops : AllByRecursion OpIsTyped p.ops
 
--- what has a text
+-- a packet that has a text
 pub record IsPacket (p : PlainPacket) : Type 0 where
   pub fits : Fits p
   pub typed : IsTyped p

@@ -96,7 +96,7 @@ pub fn encode_into(packet: &Packet, to: &mut Vec<u8>)
     requires fits { Fits (plain packet.now) }
     requires room { HasRoom to.old (length (packet_text (plain packet.now))) }
     ensures added { Adds to.old to.new (packet_text (plain packet.now)) }
-    ensures typed { IsPacket (plain packet.now) }
+    ensures is_packet { IsPacket (plain packet.now) }
 {
     push_bytes(to, &[PACKET_MARK, VERSION, packet.client, 0]);
     push_u32(to, packet.seq);

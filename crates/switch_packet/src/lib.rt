@@ -1,4 +1,8 @@
-//! Packets: what they are, their text, and how it is read and written.
+//! Packets: the hot operations of transactions, and the bytes that they are sent and logged as.
+//!
+//! A packet's text is defined apart from the code that reads and writes it (`specs/PacketText.antt`), with
+//! the ranges of its fields (`specs/Ranges.antt`). What packets do, one after another, is their replay
+//! (`specs/Replay.antt`). This crate knows no stage, no pipeline and no log.
 #![tactic(auto)]
 
 mod decode;
