@@ -1,11 +1,16 @@
 -- Packets and the records of a log as plain data, without the room that their lists are kept in.
-use Rattle.std.specs.Prelude.{ℕ, Bool, List, [], map}
+use Rattle.std.specs.Prelude.{ℕ, ◌+◌, Bool, List, [], length, map}
+use Rattle.txn_model.specs.Listed.{Listed}
 use Rattle.txn_model.specs.declared.pairs.Pair.{Pair}
 use Rattle.switch_packet.specs.declared.packet.PacketOp.{PacketOp}
 use Rattle.switch_packet.specs.declared.packet.Packet.{Packet}
 use Rattle.switch_packet.specs.declared.record.Intent.{Intent}
 use Rattle.switch_packet.specs.declared.record.Outcome.{Outcome}
 use Rattle.switch_packet.specs.declared.record.LogView.{LogView}
+
+-- how many items a list can hold without memory
+abbrev pub room_of : {T : Type 0} → Listed T → ℕ
+room_of list = length list.items + list.spare
 
 -- a packet
 pub record PlainPacket : Type 0 where

@@ -1,7 +1,7 @@
 //! Reading a packet's text.
 
-ghost use Rattle.std.specs.Prelude.{◌≡◌, ℕ, ◌≤◌, ◌+◌, ◌↔◌, List, [], ◌++◌, length, take, IfOk, OnErr};
-ghost use Rattle.switch_packet.specs.Packets.{PlainPacket, plain, blank_packet};
+ghost use Rattle.std.specs.Prelude.{◌≡◌, ℕ, ◌≤◌, ◌↔◌, List, [], ◌++◌, length, take, IfOk, OnErr};
+ghost use Rattle.switch_packet.specs.Packets.{PlainPacket, plain, blank_packet, room_of};
 ghost use Rattle.switch_packet.specs.Ranges.{IsPacket};
 ghost use Rattle.switch_packet.specs.PacketText.{packet_text};
 ghost use Rattle.switch_packet.specs.Fronts.{IsFront, IsBadAt};
@@ -159,8 +159,9 @@ fn read_ops(
 ) -> Result<(), PacketFault>
     requires empty { to.old.items ≡ [] }
     requires room { count ≤ to.old.spare }
-    ensures value { ReadsAs to.new.items reader.new result (each_at (op_at passes) 0 count reader.old) }
-    ensures room { length to.new.items + to.new.spare ≡ to.old.spare }
+    ensures value { ReadsAs to.new.items reader.new result
+        (each_at (op_at passes) 0 count reader.old) }
+    ensures room { room_of to.new ≡ room_of to.old }
 {
     for number in 0..count {
         to.push(read_op(reader, passes, number)?);
@@ -193,9 +194,9 @@ fn read_packet_head(reader: &mut Reader<'_>) -> Result<PacketHead, PacketFault>
 
 #[tactic(auto, unfolding(crate::specs::PacketReading::packet_at))]
 fn read_fields(reader: &mut Reader<'_>, to: &mut Packet) -> Result<(), PacketFault>
-    requires { MOST_PACKET_OPS ≤ length to.old.ops.items + to.old.ops.spare }
+    requires { MOST_PACKET_OPS ≤ room_of to.old.ops }
     ensures value { ReadsAs (plain to.new) reader.new result (packet_at reader.old) }
-    ensures room { length to.new.ops.items + to.new.ops.spare ≡ length to.old.ops.items + to.old.ops.spare }
+    ensures room { room_of to.new.ops ≡ room_of to.old.ops }
 {
     to.clear();
     let head = read_packet_head(reader)?;
@@ -208,10 +209,10 @@ fn read_fields(reader: &mut Reader<'_>, to: &mut Packet) -> Result<(), PacketFau
 
 /// Reads a packet's text into `to`. The room for operations is kept. After a fault `to` is blank.
 pub fn read_packet(reader: &mut Reader<'_>, to: &mut Packet) -> Result<(), PacketFault>
-    requires { MOST_PACKET_OPS ≤ length to.old.ops.items + to.old.ops.spare }
+    requires { MOST_PACKET_OPS ≤ room_of to.old.ops }
     ensures value { ReadsAs (plain to.new) reader.new result (packet_at reader.old) }
     ensures blank { OnErr result (plain to.new ≡ blank_packet) }
-    ensures room { length to.new.ops.items + to.new.ops.spare ≡ length to.old.ops.items + to.old.ops.spare }
+    ensures room { room_of to.new.ops ≡ room_of to.old.ops }
 {
     let result = read_fields(reader, to);
     if result.is_err() {
@@ -221,10 +222,10 @@ pub fn read_packet(reader: &mut Reader<'_>, to: &mut Packet) -> Result<(), Packe
 }
 
 fn decode(bytes: &[u8], to: &mut Packet) -> Result<usize, PacketFault>
-    requires { MOST_PACKET_OPS ≤ length to.old.ops.items + to.old.ops.spare }
+    requires { MOST_PACKET_OPS ≤ room_of to.old.ops }
     ensures exact { Decodes (plain to.new) bytes.now result (packet_at (start bytes.now)) }
     ensures blank { OnErr result (plain to.new ≡ blank_packet) }
-    ensures room { length to.new.ops.items + to.new.ops.spare ≡ length to.old.ops.items + to.old.ops.spare }
+    ensures room { room_of to.new.ops ≡ room_of to.old.ops }
 {
     let mut reader = Reader::new(bytes);
     read_packet(&mut reader, to)?;
@@ -234,16 +235,19 @@ fn decode(bytes: &[u8], to: &mut Packet) -> Result<usize, PacketFault>
 /// Reads the packet's text at the front of the bytes into `to`, and answers how many bytes it takes. The
 /// room for operations is kept. After a fault `to` is blank. It takes no memory.
 pub fn decode_into(bytes: &[u8], to: &mut Packet) -> Result<usize, PacketFault>
-    requires { MOST_PACKET_OPS ≤ length to.old.ops.items + to.old.ops.spare }
+    requires { MOST_PACKET_OPS ≤ room_of to.old.ops }
     // The bytes that were read are the text of the packet that `to` is now.
-    ensures found { IfOk result (λ n. IsPacket (plain to.new) × (n ≤ length bytes.now) × (take n bytes.now ≡ packet_text (plain to.new))) }
+    ensures found { IfOk result (λ n. IsPacket (plain to.new) × (n ≤ length bytes.now)
+        × (take n bytes.now ≡ packet_text (plain to.new))) }
     // What begins with a packet's text is read as that packet.
-    ensures only { (packet : PlainPacket) (rest : List ℕ) → IsPacket packet → bytes.now ≡ packet_text packet ++ rest
+    ensures only { (packet : PlainPacket) (rest : List ℕ)
+        → IsPacket packet → bytes.now ≡ packet_text packet ++ rest
         → (result ≡ Ok (length (packet_text packet))) × (plain to.new ≡ packet) }
     ensures short { (result ≡ Err PacketFault.Short) ↔ IsFront packet_text IsPacket bytes.now }
-    ensures bad { (place : ℕ) → (result ≡ Err (PacketFault.BadByte place)) ↔ IsBadAt packet_text IsPacket bytes.now place }
+    ensures bad { (place : ℕ)
+        → (result ≡ Err (PacketFault.BadByte place)) ↔ IsBadAt packet_text IsPacket bytes.now place }
     ensures blank { OnErr result (plain to.new ≡ blank_packet) }
-    ensures room { length to.new.ops.items + to.new.ops.spare ≡ length to.old.ops.items + to.old.ops.spare }
+    ensures room { room_of to.new.ops ≡ room_of to.old.ops }
     // The same, as a function of the bytes.
     ensures exact { Decodes (plain to.new) bytes.now result (packet_at (start bytes.now)) }
 {

@@ -1,7 +1,7 @@
 //! Packets: the hot operations of one transaction, as the switch executes them.
 
-ghost use Rattle.std.specs.Prelude.{◌≡◌, ◌≤◌, ◌+◌, length, IfOk};
-ghost use Rattle.switch_packet.specs.Packets.{plain, blank_packet};
+ghost use Rattle.std.specs.Prelude.{◌≡◌, ◌≤◌, IfOk};
+ghost use Rattle.switch_packet.specs.Packets.{plain, blank_packet, room_of};
 
 use crate::limits::MOST_PACKET_OPS;
 use std::alloc::Global;
@@ -56,7 +56,7 @@ impl Packet {
     /// Takes the operations out and sets all numbers to 0. The room is kept.
     pub fn clear(&mut self)
         ensures blank { plain self.new ≡ blank_packet }
-        ensures room { self.new.ops.spare ≡ length self.old.ops.items + self.old.ops.spare }
+        ensures room { self.new.ops.spare ≡ room_of self.old.ops }
     {
         self.client = 0;
         self.seq = 0;
