@@ -1,0 +1,11 @@
+pub mod Loops
+pub mod NeedsLaws
+pub mod WritingLaws
+pub mod Codecs
+pub mod NumberCodecs
+pub mod PacketCodecs
+pub mod Exactness
+pub mod DecodeLaws
+pub mod ReplayLaws
+pub mod LengthLaws
+pub mod RangeLaws

@@ -1,0 +1,9 @@
+pub mod Packets
+pub mod Ranges
+pub mod PacketText
+pub mod Fronts
+pub mod Writing
+pub mod Reading
+pub mod PacketReading
+pub mod Replay
+pub mod Laws
