@@ -1,19 +1,17 @@
 -- The run of one client's scripts is serial, and has each item once.
-use Rattle.std.proofs.Common.{◌≡◌, ℕ, zero, suc, ◌+◌, ◌-◌, ◌<◌, ◌≤◌, ◌==◌, if◌then◌else◌, List, [], ◌∷◌, map, filter, length, drop, get_or, slice_index_or, Some, IsSome, refl, sym, ap, subst, ◌∙◌, arith, Ordering, Less, Equal, nat_cmp, drop_of_length-le}
+use Rattle.std.proofs.Common.{◌≡◌, ℕ, suc, ◌+◌, ◌-◌, ◌<◌, ◌==◌, List, [], ◌∷◌, map, filter, length, drop, get_or, Some, refl, sym, ap, ◌∙◌, arith, Ordering, Less, Equal, nat_cmp, drop_of_length-le}
 use Rattle.std.specs.Ordering.{ordering_then}
 use Rattle.std.specs.List.{AllByRecursion}
 use Rattle.std.proofs.Common.{drop-cons}
 use Rattle.std.proofs.lemmas.Bool.Decides.{nat_tests}
 use Rattle.std.proofs.lemmas.List.Sorted.{IsPermutation-refl}
-use Rattle.history_model.specs.History.{History, HistoryEntry, IsInStampOrder, AllAnswered, entry_cmp}
-use Rattle.history_model.specs.Legal.{scripts_of, IsLegal, Agrees}
-use Rattle.history_model.specs.declared.entry.Entry.{Entry}
+use Rattle.history_model.specs.History.{History, IsInStampOrder, AllAnswered, entry_cmp}
+use Rattle.history_model.specs.Legal.{scripts_of, Agrees}
 use Rattle.txn_model.specs.Serial.{serial_run}
 use Rattle.txn_model.proofs.SerialLaws.{length-replies}
 use Rattle.txn_model.specs.Tuples.{Tuples}
 use Rattle.txn_model.specs.declared.op.Op.{Op}
 use Rattle.txn_model.specs.declared.pairs.Pair.{Pair}
-use Rattle.p4db_top.specs.Ran.{Ran}
 use Rattle.p4db_top.specs.Serial.{IsSerial, IsOnceEach, told_entries, ItemName}
 use Rattle.p4db_top.specs.FirstRun.{first_run, items_from, history_from, stamp_at, script_at, names_from}
 

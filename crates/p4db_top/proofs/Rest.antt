@@ -2,15 +2,12 @@
 use Rattle.std.proofs.Common.{◌≡◌, ℕ, ◌+◌, List, [], ◌∷◌, ◌++◌, map, length, drop, get_or, suc, ◌<◌, append_assoc, append-nil, drop-cons, arith, None, IsSome, refl, sym, ap, ◌∙◌}
 use Rattle.std.specs.List.{flat_map, AllByRecursion}
 use Rattle.std.specs.FinMap as fin
-use Rattle.catalogue.specs.declared.actor.Actor.{Actor}
-use Rattle.history_model.specs.declared.entry.Entry.{Entry}
-use Rattle.report_text.specs.Report.{PlainItem, Report}
+use Rattle.report_text.specs.Report.{Report}
 use Rattle.txn_model.specs.ScriptCheck.{script_fault}
 use Rattle.txn_model.specs.Listed.{Listed}
-use Rattle.txn_model.specs.Serial.{serial, serial_from, serial_run}
+use Rattle.txn_model.specs.Serial.{serial, serial_run}
 use Rattle.txn_model.specs.Tuples.{Tuples}
 use Rattle.txn_model.specs.declared.op.Op.{Op}
-use Rattle.txn_model.specs.declared.pairs.Pair.{Pair}
 use Rattle.txn_model.proofs.SerialLaws.{there-serial_from}
 use Rattle.p4db_top.specs.Ran.{report_of}
 use Rattle.p4db_top.specs.Runnable.{CanRun}

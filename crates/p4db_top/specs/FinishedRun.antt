@@ -1,12 +1,8 @@
 -- What the code keeps of a finished run, as its report tells it.
-use Rattle.std.specs.Prelude.{◌≡◌, ℕ, ◌≤◌, List, map, length, None, IsSome}
-use Rattle.std.specs.List.{AllByRecursion}
+use Rattle.std.specs.Prelude.{map}
 use Rattle.std.specs.FinMap as fin
 use Rattle.report_text.specs.Report.{Report}
 use Rattle.report_text.specs.Views.{plain_item}
-use Rattle.txn_model.specs.Tuples.{Tuples}
-use Rattle.txn_model.specs.ScriptCheck.{script_fault}
-use Rattle.txn_model.specs.declared.op.Op.{Op}
 use Rattle.p4db_top.specs.declared.first_run.FinishedRun.{FinishedRun}
 
 abbrev pub report_view : FinishedRun → Report

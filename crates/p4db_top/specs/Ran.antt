@@ -1,5 +1,5 @@
 -- What a finished run comes to, and the report of it.
-use Rattle.std.specs.Prelude.{ℕ, List, map}
+use Rattle.std.specs.Prelude.{List, map}
 use Rattle.std.specs.FinMap as fin
 use Rattle.catalogue.specs.declared.actor.Actor.{Actor}
 use Rattle.history_model.specs.History.{History}

@@ -1,6 +1,6 @@
 -- What is claimed of the order of a finished run's transactions.
-use Rattle.std.specs.Prelude.{◌≡◌, ℕ, ◌+◌, ◌-◌, List, [], ◌∷◌, map, filter, length, slice_index_or, Some, if◌then◌else◌, ◌==◌, IsPermutation}
-use Rattle.history_model.specs.History.{History, HistoryEntry, IsInStampOrder, AllAnswered}
+use Rattle.std.specs.Prelude.{◌≡◌, ℕ, List, [], ◌∷◌, map, filter, Some, ◌==◌, IsPermutation}
+use Rattle.history_model.specs.History.{History, AllAnswered}
 use Rattle.history_model.specs.InOrder.{HasEachOnce}
 use Rattle.history_model.specs.Legal.{scripts_of, IsLegal}
 use Rattle.report_text.specs.Report.{PlainItem, PlainEnd, Committed, Aborted, Lost}

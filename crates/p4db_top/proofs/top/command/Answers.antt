@@ -1,4 +1,4 @@
-use Rattle.std.proofs.Common.{◌≡◌, ◌∙◌, sym, ap, arith}
+use Rattle.std.proofs.Common.{◌∙◌, sym, ap, arith}
 use Rattle.p4db_top.specs.Status.{status_of}
 use Rattle.p4db_top.proofs.Statuses.{headline_from_status}
 use Rattle.p4db_top.proofs.top.command.Goals.{then-is_run, else-is_run}

@@ -1,5 +1,4 @@
-use Rattle.std.proofs.Common.{codes, ◌∙◌, ap}
-use Rattle.std.specs.Str.{bytes_eq}
+use Rattle.std.proofs.Common.{codes}
 use Rattle.p4db_top.proofs.Words.{one_word}
 use Rattle.p4db_top.proofs.top.is_run.Goals as goal
 

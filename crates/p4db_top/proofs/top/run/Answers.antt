@@ -1,4 +1,4 @@
-use Rattle.std.proofs.Common.{◌≡◌, ◌∙◌, List, ℕ, string_bytes, inr, sym, subst}
+use Rattle.std.proofs.Common.{◌≡◌, ◌∙◌, inr, subst}
 use Rattle.std.specs.Io.KnownBytes.{Appends}
 use Rattle.port_io.specs.WriteAll.{AppendsFront}
 use Rattle.session_text.specs.First.{first_view}

@@ -1,6 +1,5 @@
 use Rattle.std.proofs.Common.{◌≡◌, ◌+◌, ◌<◌, List, map, drop, length, ap, subst, drop_of_length-le, arith}
 use Rattle.std.specs.FinMap as fin
-use Rattle.report_text.specs.Report.{Report}
 use Rattle.txn_model.specs.Listed.{Listed}
 use Rattle.txn_model.specs.Serial.{serial}
 use Rattle.txn_model.specs.declared.op.Op.{Op}

@@ -1,4 +1,4 @@
-use Rattle.std.proofs.Common.{◌≡◌, ◌+◌, map, drop}
+use Rattle.std.proofs.Common.{◌+◌, map, drop}
 use Rattle.std.specs.List.{AllByRecursion}
 use Rattle.p4db_top.specs.FinishedRun.{report_view}
 use Rattle.p4db_top.specs.FirstRun.{first_run}
