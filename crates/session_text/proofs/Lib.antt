@@ -1,1 +1,4 @@
 pub mod RunnableLemmas
+pub mod ScriptRules
+pub mod ItemLists
+pub mod WithinLimits

@@ -1,10 +1,11 @@
 //! The limits of sessions.
 
-ghost use Rattle.std.specs.Prelude.{◌≡◌, map, length, nat_le, sum_by};
+ghost use Rattle.std.specs.Prelude.{◌≡◌, map, length, nat_le, sum_by, None};
 ghost use Rattle.std.specs.List.{list_all};
 ghost use Rattle.session_draft.specs.Written.{written_item, written_items, written};
-ghost use Rattle.session_text.specs.Limits.{sizes_fit, of_script, has_ops_that_fit, has_needs_that_fit, is_within_limits};
+ghost use Rattle.session_text.specs.Limits.{sizes_fit, of_script, has_ops_that_fit, has_needs_that_fit, is_within_limits, over_size, over_count, over_limit};
 
+use crate::fault::Limit;
 use session_draft::{Draft, ItemDraft, ShapeDraft};
 use txn_model::MOST_OPS;
 
@@ -25,6 +26,58 @@ const MOST_CLIENTS: usize = 8;
 const MOST_ITEMS: usize = 4096;
 /// Of one operation.
 const MOST_NEEDS: usize = 4;
+
+/// The first limit that isn't kept.
+#[tactic(auto, unfolding(crate::specs::Limits::over_limit))]
+pub(crate) fn over_limit(draft: &Draft) -> Option<Limit>
+    ensures { result ≡ over_limit (written draft.now) }
+{
+    match over_size(&draft.shape) {
+        Some(limit) => Some(limit),
+        None => over_count(draft),
+    }
+}
+
+fn over_size(shape: &ShapeDraft) -> Option<Limit>
+    ensures { result ≡ over_size shape.now None }
+{
+    if !(1..=MOST_STAGES).contains(&shape.stages) {
+        Some(Limit::Stages)
+    } else if !(1..=MOST_ARRAYS).contains(&shape.arrays) {
+        Some(Limit::Arrays)
+    } else if !(1..=MOST_CELLS).contains(&shape.cells) {
+        Some(Limit::Cells)
+    } else if shape.split > shape.stages {
+        Some(Limit::Split)
+    } else if !(1..=MOST_HOSTS).contains(&shape.hosts) {
+        Some(Limit::Hosts)
+    } else {
+        None
+    }
+}
+
+fn over_count(draft: &Draft) -> Option<Limit>
+    ensures { result ≡ over_count (written draft.now) }
+{
+    let clients = draft.clients.as_slice();
+    if draft.tuples.len() > MOST_ROWS {
+        Some(Limit::Tuples)
+    } else if draft.layout.len() > MOST_ROWS {
+        Some(Limit::Layout)
+    } else if !(1..=MOST_TRIES).contains(&draft.tries) {
+        Some(Limit::Tries)
+    } else if clients.len() > MOST_CLIENTS {
+        Some(Limit::Clients)
+    } else if !items_fit(clients) {
+        Some(Limit::Items)
+    } else if !ops_fit(clients) {
+        Some(Limit::Ops)
+    } else if !needs_fit(clients) {
+        Some(Limit::Needs)
+    } else {
+        None
+    }
+}
 
 /// Whether each number and each count is inside its limit.
 pub(crate) fn is_within_limits(draft: &Draft) -> bool

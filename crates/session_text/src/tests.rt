@@ -1,5 +1,5 @@
 use super::*;
-use session_draft::Section;
+
 use std::alloc::{AllocError, Global};
 use std::test::Fail;
 use txn_model::{Act, Needs, Op, TupleId};
