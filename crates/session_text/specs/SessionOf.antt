@@ -19,39 +19,43 @@ use Rattle.session_text.specs.Rules.{first_unknown}
 use Rattle.session_text.specs.declared.fault.SessionFault.{SessionFault}
 use Rattle.session_text.specs.declared.fault.SessionFault.TheVariants.{OverLimit, BadTuple, TupleTwice, BadUse, BadTurn, BadActor}
 
--- the faults of the layout and of the scripts, in their order
-unfoldable pub fit_together : Plan → Result ⊤ SessionFault
-fit_together plan = do
-  _ ← refuse BadTuple (first_place (first_unknown plan.tuples 0) plan.clients)
-  _ ← refuse place_fault (layout_fault plan.shape plan.tuples plan.layout)
+-- the faults of scripts whose tuples are there
+unfoldable pub scripts_fit : Plan → Result ⊤ SessionFault
+scripts_fit plan = do
   _ ← refuse TupleTwice (first_place (first_repeat []) plan.clients)
   _ ← refuse BadUse (first_place (first_bad_use 0) plan.clients)
   refuse BadTurn (first_place (first_bad_turn plan.layout) plan.clients)
+
+-- the faults of the scripts and of the layout, in their order
+unfoldable pub parts_fit : Plan → Result ⊤ SessionFault
+parts_fit plan = do
+  _ ← refuse BadTuple (first_place (first_unknown plan.tuples 0) plan.clients)
+  _ ← refuse place_fault (layout_fault plan.shape plan.tuples plan.layout)
+  scripts_fit plan
 
 -- the words of a schedule: what stands between its single spaces
 abbrev pub words_of : List ℕ → List (List ℕ)
 words_of text = if length text == 0 then [] else slice_split (λ b. b == 32) text
 
 -- the actors that the words name, which begin with word k
-abbrev pub actors_of : Plan → ℕ → List (List ℕ) → Result (List Actor) SessionFault
+unfoldable pub actors_of : Plan → ℕ → List (List ℕ) → Result (List Actor) SessionFault
 actors_of plan k [] = Ok []
 actors_of plan k (word ∷ words) = do
   actor ← ok_or (actor_of plan word) (BadActor k)
   actors ← actors_of plan (k + 1) words
   Ok (actor ∷ actors)
 
--- the plan with the schedule of these words
-abbrev pub scheduled : Plan → List (List ℕ) → Result Plan SessionFault
-scheduled plan words = do
-  actors ← actors_of plan 0 words
-  Ok (record { shape = plan.shape; tuples = plan.tuples; layout = plan.layout; tries = plan.tries; clients = plan.clients; schedule = actors })
+-- the plan with this schedule
+abbrev pub with_schedule : Plan → List Actor → Plan
+with_schedule plan actors = record { shape = plan.shape; tuples = plan.tuples; layout = plan.layout; tries = plan.tries; clients = plan.clients; schedule = actors }
 
 -- the session that is written, or its first fault
 unfoldable pub checked : Written → Result Plan SessionFault
 checked w = do
   _ ← refuse OverLimit (over_limit w)
-  _ ← fit_together (unscheduled w)
-  scheduled (unscheduled w) (words_of w.schedule)
+  _ ← parts_fit (unscheduled w)
+  actors ← actors_of (unscheduled w) 0 (words_of w.schedule)
+  Ok (with_schedule (unscheduled w) actors)
 
 -- the draft of a text, with its faults as those of a session
 abbrev pub written_in : List ℕ → Result Written SessionFault

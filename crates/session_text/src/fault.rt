@@ -6,6 +6,7 @@ ghost use Rattle.session_text.specs.Faults.{draft_fault, place_fault};
 
 use session_draft::{DraftFault, Section};
 use stage_layout::LayoutFault;
+use std::alloc::{AllocError, AllocFailed};
 use txn_model::NoMemory;
 
 /// A limit of sessions, in the order in which they're looked at.
@@ -80,6 +81,22 @@ impl From<NoMemory> for SessionFault {
     ghost from_gives = { λ _ fault. fault ≡ NoMemory };
 
     fn from(_error: NoMemory) -> SessionFault {
+        SessionFault::NoMemory
+    }
+}
+
+impl From<AllocError> for SessionFault {
+    ghost from_gives = { λ _ fault. fault ≡ NoMemory };
+
+    fn from(_error: AllocError) -> SessionFault {
+        SessionFault::NoMemory
+    }
+}
+
+impl<T: Drop> From<AllocFailed<T>> for SessionFault {
+    ghost from_gives = { λ _ fault. fault ≡ NoMemory };
+
+    fn from(_error: AllocFailed<T>) -> SessionFault {
         SessionFault::NoMemory
     }
 }
