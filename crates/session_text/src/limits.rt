@@ -3,7 +3,7 @@
 ghost use Rattle.std.specs.Prelude.{◌≡◌, map, length, nat_le, sum_by, None};
 ghost use Rattle.std.specs.List.{list_all};
 ghost use Rattle.session_draft.specs.Written.{written_item, written_items, written};
-ghost use Rattle.session_text.specs.Limits.{sizes_fit, of_script, has_ops_that_fit, has_needs_that_fit, is_within_limits, over_size, over_count, over_limit};
+ghost use Rattle.session_text.specs.Limits.{of_script, has_ops_that_fit, has_needs_that_fit, over_size, over_count, over_limit};
 
 use crate::fault::Limit;
 use session_draft::{Draft, ItemDraft, ShapeDraft};
@@ -77,30 +77,6 @@ fn over_count(draft: &Draft) -> Option<Limit>
     } else {
         None
     }
-}
-
-/// Whether each number and each count is inside its limit.
-pub(crate) fn is_within_limits(draft: &Draft) -> bool
-    ensures { result ≡ is_within_limits (written draft.now) }
-{
-    sizes_fit(&draft.shape)
-        && draft.tuples.len() <= MOST_ROWS
-        && draft.layout.len() <= MOST_ROWS
-        && (1..=MOST_TRIES).contains(&draft.tries)
-        && draft.clients.len() <= MOST_CLIENTS
-        && items_fit(draft.clients.as_slice())
-        && ops_fit(draft.clients.as_slice())
-        && needs_fit(draft.clients.as_slice())
-}
-
-fn sizes_fit(shape: &ShapeDraft) -> bool
-    ensures { result ≡ sizes_fit shape.now }
-{
-    (1..=MOST_STAGES).contains(&shape.stages)
-        && (1..=MOST_ARRAYS).contains(&shape.arrays)
-        && (1..=MOST_CELLS).contains(&shape.cells)
-        && shape.split <= shape.stages
-        && (1..=MOST_HOSTS).contains(&shape.hosts)
 }
 
 fn items_fit(clients: &[Vec<ItemDraft>]) -> bool
