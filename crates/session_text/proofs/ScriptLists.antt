@@ -69,7 +69,7 @@ pub ready_for_turns : (clients : List (List PlainItem)) → All (All (OfScript H
     → All (All (OfScript (λ ops. script_fault ops ≡ None))) clients
 ready_for_turns clients ops once earlier =
     both (λ ops. HasOps ops × (first_repeat [] ops ≡ None)) (FindsNone (first_bad_use 0)) (λ ops. script_fault ops ≡ None) (λ ops p q. no_fault ops p.0 p.1 q) clients
-        (ready_for_needs clients ops once) (none_found (first_bad_use 0) clients earlier)
+    (ready_for_needs clients ops once) (none_found (first_bad_use 0) clients earlier)
 
 left : (a b : Bool) → (a && b) ≡ true → a ≡ true
 left true b h = refl

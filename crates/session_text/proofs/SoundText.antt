@@ -86,7 +86,7 @@ parts plan schedule done ops e =
     let turned = none_found (first_bad_turn plan.layout) clients turns in
     let first_two = both (FindsNone (first_unknown plan.tuples 0)) (λ ops. script_fault ops ≡ None) (λ ops. (first_unknown plan.tuples 0 ops ≡ None) × (script_fault ops ≡ None)) (λ _ p q. (p, q)) clients known unfaulty in
     let fit = both (λ ops. (first_unknown plan.tuples 0 ops ≡ None) × (script_fault ops ≡ None)) (FindsNone (first_bad_turn plan.layout)) (IsFit (with_schedule plan schedule))
-            (λ ops p q. record { tuples = known_tuples plan.tuples 0 ops p.0; script = p.1; turns = q }) clients first_two turned in
+    (λ ops p q. record { tuples = known_tuples plan.tuples 0 ops p.0; script = p.1; turns = q }) clients first_two turned in
     record {
       layout = layout.0;
       items = λ k d lt i d' below. fit_item (with_schedule plan schedule) (get_or (get_or clients k d) i d') (fit k d lt i d' below);

@@ -6,25 +6,12 @@ ghost use Rattle.session_draft.specs.Written.{written_item, written_items, writt
 ghost use Rattle.session_text.specs.Limits.{of_script, has_ops_that_fit, has_needs_that_fit, over_size, over_count, over_limit};
 
 use crate::fault::Limit;
+use catalogue::{MOST_CLIENTS, MOST_ITEMS, MOST_ROWS, MOST_TRIES, MOST_TUPLES};
 use session_draft::{Draft, ItemDraft, ShapeDraft};
+use stage_layout::{MOST_ARRAYS, MOST_CELLS, MOST_HOSTS, MOST_STAGES};
 use txn_model::MOST_OPS;
 
-const MOST_STAGES: u8 = 12;
-
-const MOST_ARRAYS: u8 = 4;
-
-const MOST_CELLS: u16 = 4096;
-
-const MOST_HOSTS: u8 = 8;
-/// Of tuples, and of the layout.
-const MOST_ROWS: usize = 65_536;
-
-const MOST_TRIES: u8 = 16;
-
-const MOST_CLIENTS: usize = 8;
-/// Of all clients together.
-const MOST_ITEMS: usize = 4096;
-/// Of one operation.
+/// The most needs of an operation.
 const MOST_NEEDS: usize = 4;
 
 /// The first limit that isn't kept.
@@ -60,13 +47,13 @@ fn over_count(draft: &Draft) -> Option<Limit>
     ensures { result ≡ over_count (written draft.now) }
 {
     let clients = draft.clients.as_slice();
-    if draft.tuples.len() > MOST_ROWS {
+    if draft.tuples.len() > MOST_TUPLES {
         Some(Limit::Tuples)
     } else if draft.layout.len() > MOST_ROWS {
         Some(Limit::Layout)
     } else if !(1..=MOST_TRIES).contains(&draft.tries) {
         Some(Limit::Tries)
-    } else if clients.len() > MOST_CLIENTS {
+    } else if clients.len() > usize::from(MOST_CLIENTS) {
         Some(Limit::Clients)
     } else if !items_fit(clients) {
         Some(Limit::Items)

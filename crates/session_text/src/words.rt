@@ -33,11 +33,7 @@ fn words_of(alloc: Global, text: &str) -> Result<Vec<&str>, AllocError>
 }
 
 #[tactic(auto, unfolding(crate::specs::SessionOf::actors_of))]
-fn actors_of(
-    alloc: Global,
-    session: &Session,
-    words: &[&str],
-) -> Result<Vec<Actor>, SessionFault>
+fn actors_of(alloc: Global, session: &Session, words: &[&str]) -> Result<Vec<Actor>, SessionFault>
     ensures { Answers SessionFault.NoMemory (λ actors. actors.items) result (actors_of (plan_of session.now) 0 (map (λ word. word.now) words.now)) }
 {
     let mut actors = Vec::with_capacity(alloc, words.len())?;

@@ -9,4 +9,4 @@ use Rattle.session_text.proofs.rule.first_in_items.Given as goal
 abbrev pub invariant-loop-i : goal.invariant-loop-i
 invariant-loop-i l =
     first_in_items (breaks l.rule (plan_of l.session)) l.client (l.i + 1) (map plain_item (drop l.i l.items))
-        ≡ first_in_items (breaks l.rule (plan_of l.session)) l.client 1 (map plain_item l.items)
+    ≡ first_in_items (breaks l.rule (plan_of l.session)) l.client 1 (map plain_item l.items)

@@ -8,4 +8,4 @@ use Rattle.session_text.proofs.rule.first_place.Given as goal
 abbrev pub invariant-loop-client : goal.invariant-loop-client
 invariant-loop-client l =
     first_in_clients (breaks l.rule (plan_of l.session)) l.client (drop l.client (plan_of l.session).clients)
-        ≡ first_place (breaks l.rule (plan_of l.session)) (plan_of l.session).clients
+    ≡ first_place (breaks l.rule (plan_of l.session)) (plan_of l.session).clients

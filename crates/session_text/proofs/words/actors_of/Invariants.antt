@@ -8,4 +8,4 @@ use Rattle.session_text.proofs.words.actors_of.Given as goal
 abbrev pub invariant-loop-i : goal.invariant-loop-i
 invariant-loop-i l =
     actors_of (plan_of l.session) 0 (map (λ word. word.now) l.words)
-        ≡ with_front l.actors.items (actors_of (plan_of l.session) l.i (map (λ word. word.now) (drop l.i l.words)))
+    ≡ with_front l.actors.items (actors_of (plan_of l.session) l.i (map (λ word. word.now) (drop l.i l.words)))
