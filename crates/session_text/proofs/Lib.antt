@@ -1,1 +1,7 @@
 pub mod RunnableLemmas
+pub mod ScriptRules
+pub mod ItemLists
+pub mod WithinLimits
+pub mod ScriptLists
+pub mod ScheduleWords
+pub mod SoundText

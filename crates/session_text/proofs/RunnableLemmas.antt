@@ -11,8 +11,9 @@ use Rattle.txn_model.proofs.SortedRows.{rows_are_entries}
 use Rattle.txn_model.proofs.TupleOrder.{tuple_cmp_total}
 use Rattle.session_draft.specs.Written.{WrittenItem, Written}
 use Rattle.session_text.specs.First.{First, plain_script, first_of, can_run, can_run_all, is_plain}
-use Rattle.session_text.specs.Limits.{sizes_fit, tuples_fit, layout_fits, tries_fit, clients_fit, items_fit, ops_fit, needs_fit, is_within_limits}
+use Rattle.session_text.specs.Limits.{over_limit}
 use Rattle.session_text.specs.Runnable.{IsRunnable}
+use Rattle.session_text.proofs.WithinLimits.{Within, within}
 
 left : (a b : Bool) → IsTrue (a && b) → IsTrue a
 left true b h = refl
@@ -34,11 +35,8 @@ none (Some x) h = cc
 scripts_of_clients : (clients : List (List WrittenItem)) → length (flat_map (map plain_script) clients) ≡ sum_by length clients
 scripts_of_clients clients = length-flat_map (map plain_script) clients ∙ simp length-map
 
-within : (w : Written) → IsTrue (is_plain w) → IsTrue (is_within_limits w)
-within w h = left _ _ (left _ _ (left _ _ (left _ _ h)))
-
-few : (n most : ℕ) → IsTrue (nat_le n most) → n ≤ most
-few n most h = grind (arith, nat_tests)
+kept : (w : Written) → IsTrue (is_plain w) → Within w
+kept w h = within w (none (over_limit w) (left _ _ (left _ _ (left _ _ (left _ _ h)))))
 
 -- the tests of a first session, on what is written and on the session
 pub runnable : (w : Written) (session : First) → IsTrue (is_plain w) → IsTrue (is_sorted tuple_cmp w.tuples) → session ≡ first_of w → IsTrue (can_run_all session) → IsRunnable session
@@ -48,11 +46,8 @@ runnable w session plain ascending built runs = record {
       (λ script h. all_of_tests (λ op. is_some (get session.tuples op.tuple)) (λ op. IsSome (get session.tuples op.tuple)) (λ op k. k) script (right _ _ h)) session.scripts runs;
   few_scripts =
       let items : length session.scripts ≡ sum_by length w.clients = ap (λ s. length s.scripts) built ∙ scripts_of_clients w.clients in
-      let fits = few _ 4096 (right _ (items_fit w) (left _ (ops_fit w) (left _ (needs_fit w) (within w plain)))) in
-      omega (arith, items, fits);
+      omega (arith, items, (kept w plain).items);
   few_tuples =
       let rows : length (entries session.tuples) ≡ length w.tuples = ap (λ s. length (entries s.tuples)) built ∙ ap length (sym (rows_are_entries tuple_cmp_total w.tuples ascending)) in
-      let front = left (sizes_fit w.shape && tuples_fit w) (layout_fits w) (left _ (tries_fit w) (left _ (clients_fit w) (left _ (items_fit w) (left _ (ops_fit w) (left _ (needs_fit w) (within w plain)))))) in
-      let fits = few _ 65536 (right (sizes_fit w.shape) (tuples_fit w) front) in
-      omega (arith, rows, fits);
+      omega (arith, rows, (kept w plain).tuples);
 }

@@ -1,3 +1,8 @@
 pub mod Limits
+pub mod Faults
+pub mod Built
+pub mod FirstPlace
+pub mod Rules
+pub mod SessionOf
 pub mod First
 pub mod Runnable

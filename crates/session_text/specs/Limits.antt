@@ -1,8 +1,10 @@
 -- The limits of a session, as tests of what is written.
-use Rattle.std.specs.Prelude.{ℕ, ◌&&◌, Bool, true, List, length, nat_le, sum_by}
+use Rattle.std.specs.Prelude.{ℕ, ◌&&◌, Bool, true, false, List, length, nat_le, sum_by, Option, Some, None, is_none}
 use Rattle.std.specs.List.{list_all}
 use Rattle.session_draft.specs.declared.draft.ShapeDraft.{ShapeDraft}
 use Rattle.session_draft.specs.Written.{WrittenOp, WrittenItem, run, lose, Written}
+use Rattle.session_text.specs.declared.fault.Limit.{Limit}
+use Rattle.session_text.specs.declared.fault.Limit.TheVariants.{Stages, Arrays, Cells, Split, Hosts, Tuples, Layout, Tries, Clients, Items, Ops, Needs}
 
 abbrev pub is_between : ℕ → ℕ → ℕ → Bool
 is_between least most n = nat_le least n && nat_le n most
@@ -23,9 +25,6 @@ split_fits shape = nat_le shape.split shape.stages
 
 abbrev pub hosts_fit : ShapeDraft → Bool
 hosts_fit shape = is_between 1 8 shape.hosts
-
-abbrev pub sizes_fit : ShapeDraft → Bool
-sizes_fit shape = stages_fit shape && arrays_fit shape && cells_fit shape && split_fits shape && hosts_fit shape
 
 -- the other limits, in their order
 abbrev pub tuples_fit : Written → Bool
@@ -64,7 +63,25 @@ has_needs_that_fit ops = list_all has_few_needs ops
 abbrev pub needs_fit : Written → Bool
 needs_fit w = list_all (list_all (of_script has_needs_that_fit)) w.clients
 
--- each number and each count is inside its limit
+-- the limit, where its test isn't passed, or else what is found behind it
+abbrev pub broken : Limit → Bool → Option Limit → Option Limit
+broken limit true behind = behind
+broken limit false behind = Some limit
+
+-- the first limit of the shape that isn't kept, or else what is found behind them
+abbrev pub over_size : ShapeDraft → Option Limit → Option Limit
+over_size shape behind =
+    broken Stages (stages_fit shape) (broken Arrays (arrays_fit shape) (broken Cells (cells_fit shape) (broken Split (split_fits shape) (broken Hosts (hosts_fit shape) behind))))
+
+-- the first of the other limits that isn't kept
+abbrev pub over_count : Written → Option Limit
+over_count w =
+    broken Tuples (tuples_fit w) (broken Layout (layout_fits w) (broken Tries (tries_fit w) (broken Clients (clients_fit w) (broken Items (items_fit w) (broken Ops (ops_fit w) (broken Needs (needs_fit w) None))))))
+
+-- the first limit that isn't kept
+unfoldable pub over_limit : Written → Option Limit
+over_limit w = over_size w.shape (over_count w)
+
+-- each limit is kept
 abbrev pub is_within_limits : Written → Bool
-is_within_limits w =
-    sizes_fit w.shape && tuples_fit w && layout_fits w && tries_fit w && clients_fit w && items_fit w && ops_fit w && needs_fit w
+is_within_limits w = is_none (over_limit w)

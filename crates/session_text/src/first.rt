@@ -7,7 +7,7 @@ ghost use Rattle.session_draft.specs.Written.{written_op, written_item, written_
 ghost use Rattle.session_text.specs.First.{script_view, first_view, is_plain_op, is_plain_item, plain_op, plain_script, first_of, can_run, can_run_all, is_plain, fault_of, first_session};
 ghost use Rattle.session_text.specs.Runnable.{IsRunnable};
 
-use crate::limits::is_within_limits;
+use crate::limits::over_limit;
 use session_draft::{Draft, DraftFault, ItemDraft, OpDraft, read_draft};
 use std::alloc::{AllocError, Global};
 use txn_model::{Act, Items, Needs, NoMemory, Op, Script, TupleMap};
@@ -65,7 +65,7 @@ fn fault(fault: DraftFault) -> FirstFault
 fn is_plain(draft: &Draft) -> bool
     ensures { result ≡ is_plain (written draft.now) }
 {
-    is_within_limits(draft)
+    over_limit(draft).is_none()
         && draft.layout.is_empty()
         && draft.schedule.is_empty()
         && draft.clients.len() <= 1

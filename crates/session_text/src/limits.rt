@@ -1,53 +1,69 @@
 //! The limits of sessions.
 
-ghost use Rattle.std.specs.Prelude.{◌≡◌, map, length, nat_le, sum_by};
+ghost use Rattle.std.specs.Prelude.{◌≡◌, map, length, nat_le, sum_by, None};
 ghost use Rattle.std.specs.List.{list_all};
 ghost use Rattle.session_draft.specs.Written.{written_item, written_items, written};
-ghost use Rattle.session_text.specs.Limits.{sizes_fit, of_script, has_ops_that_fit, has_needs_that_fit, is_within_limits};
+ghost use Rattle.session_text.specs.Limits.{of_script, has_ops_that_fit, has_needs_that_fit, over_size, over_count, over_limit};
 
+use crate::fault::Limit;
+use catalogue::{MOST_CLIENTS, MOST_ITEMS, MOST_ROWS, MOST_TRIES, MOST_TUPLES};
 use session_draft::{Draft, ItemDraft, ShapeDraft};
+use stage_layout::{MOST_ARRAYS, MOST_CELLS, MOST_HOSTS, MOST_STAGES};
 use txn_model::MOST_OPS;
 
-const MOST_STAGES: u8 = 12;
-
-const MOST_ARRAYS: u8 = 4;
-
-const MOST_CELLS: u16 = 4096;
-
-const MOST_HOSTS: u8 = 8;
-/// Of tuples, and of the layout.
-const MOST_ROWS: usize = 65_536;
-
-const MOST_TRIES: u8 = 16;
-
-const MOST_CLIENTS: usize = 8;
-/// Of all clients together.
-const MOST_ITEMS: usize = 4096;
-/// Of one operation.
+/// The most needs of an operation.
 const MOST_NEEDS: usize = 4;
 
-/// Whether each number and each count is inside its limit.
-pub(crate) fn is_within_limits(draft: &Draft) -> bool
-    ensures { result ≡ is_within_limits (written draft.now) }
+/// The first limit that isn't kept.
+#[tactic(auto, unfolding(crate::specs::Limits::over_limit))]
+pub(crate) fn over_limit(draft: &Draft) -> Option<Limit>
+    ensures { result ≡ over_limit (written draft.now) }
 {
-    sizes_fit(&draft.shape)
-        && draft.tuples.len() <= MOST_ROWS
-        && draft.layout.len() <= MOST_ROWS
-        && (1..=MOST_TRIES).contains(&draft.tries)
-        && draft.clients.len() <= MOST_CLIENTS
-        && items_fit(draft.clients.as_slice())
-        && ops_fit(draft.clients.as_slice())
-        && needs_fit(draft.clients.as_slice())
+    match over_size(&draft.shape) {
+        Some(limit) => Some(limit),
+        None => over_count(draft),
+    }
 }
 
-fn sizes_fit(shape: &ShapeDraft) -> bool
-    ensures { result ≡ sizes_fit shape.now }
+fn over_size(shape: &ShapeDraft) -> Option<Limit>
+    ensures { result ≡ over_size shape.now None }
 {
-    (1..=MOST_STAGES).contains(&shape.stages)
-        && (1..=MOST_ARRAYS).contains(&shape.arrays)
-        && (1..=MOST_CELLS).contains(&shape.cells)
-        && shape.split <= shape.stages
-        && (1..=MOST_HOSTS).contains(&shape.hosts)
+    if !(1..=MOST_STAGES).contains(&shape.stages) {
+        Some(Limit::Stages)
+    } else if !(1..=MOST_ARRAYS).contains(&shape.arrays) {
+        Some(Limit::Arrays)
+    } else if !(1..=MOST_CELLS).contains(&shape.cells) {
+        Some(Limit::Cells)
+    } else if shape.split > shape.stages {
+        Some(Limit::Split)
+    } else if !(1..=MOST_HOSTS).contains(&shape.hosts) {
+        Some(Limit::Hosts)
+    } else {
+        None
+    }
+}
+
+fn over_count(draft: &Draft) -> Option<Limit>
+    ensures { result ≡ over_count (written draft.now) }
+{
+    let clients = draft.clients.as_slice();
+    if draft.tuples.len() > MOST_TUPLES {
+        Some(Limit::Tuples)
+    } else if draft.layout.len() > MOST_ROWS {
+        Some(Limit::Layout)
+    } else if !(1..=MOST_TRIES).contains(&draft.tries) {
+        Some(Limit::Tries)
+    } else if clients.len() > usize::from(MOST_CLIENTS) {
+        Some(Limit::Clients)
+    } else if !items_fit(clients) {
+        Some(Limit::Items)
+    } else if !ops_fit(clients) {
+        Some(Limit::Ops)
+    } else if !needs_fit(clients) {
+        Some(Limit::Needs)
+    } else {
+        None
+    }
 }
 
 fn items_fit(clients: &[Vec<ItemDraft>]) -> bool

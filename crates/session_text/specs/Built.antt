@@ -1,0 +1,46 @@
+-- The session that is written, as a plan.
+use Rattle.std.specs.Prelude.{◌==◌, Bool, List, [], ◌∷◌, map, length, if◌then◌else◌}
+use Rattle.std.specs.FinMap.{from_sorted}
+use Rattle.std.specs.List.{slice_split}
+use Rattle.txn_model.specs.declared.op.Need.{Need}
+use Rattle.txn_model.specs.declared.op.Needs.{Needs}
+use Rattle.txn_model.specs.declared.op.Needs.TheVariants.{Zero, One, Two, Three, Four}
+use Rattle.txn_model.specs.declared.op.Op.{Op}
+use Rattle.stage_layout.specs.declared.layout.LayoutRow.{LayoutRow}
+use Rattle.stage_layout.specs.declared.shape.Shape.{Shape}
+use Rattle.catalogue.specs.Plan.{Plan, PlainItem, Run, Lose}
+use Rattle.session_draft.specs.Written.{WrittenOp, WrittenItem, run, lose, Written}
+use Rattle.session_draft.specs.declared.draft.RowDraft.{RowDraft}
+use Rattle.session_draft.specs.declared.draft.ShapeDraft.{ShapeDraft}
+
+-- a list of at most four needs in its one form
+abbrev pub needs_of : List Need → Needs
+needs_of [] = Zero
+needs_of (a ∷ []) = One a
+needs_of (a ∷ b ∷ []) = Two a b
+needs_of (a ∷ b ∷ c ∷ []) = Three a b c
+needs_of (a ∷ b ∷ c ∷ d ∷ _) = Four a b c d
+
+abbrev pub op_of : WrittenOp → Op
+op_of op = record { tuple = op.tuple; act = op.act; needs = needs_of op.needs }
+
+abbrev pub item_of : WrittenItem → PlainItem
+item_of (run ops) = Run (map op_of ops)
+item_of lose = Lose
+
+abbrev pub row_of : RowDraft → LayoutRow
+row_of row = record { tuple = row.tuple; place = row.place }
+
+abbrev pub shape_of : ShapeDraft → Shape
+shape_of shape = record { stages = shape.stages; arrays = shape.arrays; cells = shape.cells; split = shape.split; hosts = shape.hosts }
+
+-- all that is written but the schedule
+abbrev pub unscheduled : Written → Plan
+unscheduled w = record {
+  shape = shape_of w.shape;
+  tuples = from_sorted w.tuples;
+  layout = map row_of w.layout;
+  tries = w.tries;
+  clients = map (map item_of) w.clients;
+  schedule = [];
+}
