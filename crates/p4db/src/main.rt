@@ -39,9 +39,9 @@ fn answer(rt: &HostRuntime) -> Note {
 
 fn main(rt: HostRuntime) -> ExitCode {
     let note = answer(&rt);
-    if let Some(line) = note.line() {
-        // Where the line can't be written, the status still tells.
-        let _ = rt.eprint(line);
+    // Where the line can't be made or written, the status still tells.
+    if let Ok(line) = note.line(rt.alloc()) {
+        let _ = rt.eprint(line.as_str());
     }
     ExitCode::from(note.status())
 }

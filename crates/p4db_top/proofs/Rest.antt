@@ -66,8 +66,3 @@ scripts_at scripts i s inside read =
 -- the code's next state, where its parts are those of one more script
 pub rests_as : (left : List (List Op)) (seq : ℕ) (done next : Report) (m n : Tuples) (whole : Report) → next ≡ done → n ≡ m → Rests left seq done m whole → Rests left seq next n whole
 rests_as left seq done next m n whole e f r = rw (e, f) r
-
--- scripts with no fault, whose tuples are there, can be run
-pub can_run_all : (m : Tuples) (scripts : List (Listed Op)) → AllByRecursion (λ s. script_fault s ≡ None) (map (λ s. s.items) scripts) → AllByRecursion (λ s. AllByRecursion (λ op. IsSome (fin.get m op.tuple)) s) (map (λ s. s.items) scripts) → AllByRecursion (λ s. CanRun m s.items) scripts
-can_run_all m [] sound there = tt
-can_run_all m (s ∷ ss) sound there = (record { sound = sound.0; there = there.0 }, can_run_all m ss sound.1 there.1)

@@ -1,15 +1,15 @@
 -- The headline, and what each other answer of the top call is owed to.
-use Rattle.std.specs.Prelude.{◌≡◌, ◌⊎◌, ℕ, List, [], ◌∷◌, codes, Option, Ok, Err}
+use Rattle.std.specs.Prelude.{◌≡◌, ◌⊎◌, ℕ, true, false, List, [], ◌∷◌, codes, Option, Ok, Err}
 use Rattle.std.specs.Io.KnownBytes.{Appends}
+use Rattle.catalogue.specs.Plan.{Plan}
 use Rattle.port_io.specs.ReadAll.{TakesAll, TakesWithin, TakesBeyond}
 use Rattle.port_io.specs.WriteAll.{AppendsFront}
 use Rattle.report_text.specs.ReportText.{report}
-use Rattle.session_text.specs.First.{First, first_session}
-use Rattle.session_text.specs.declared.first.FirstFault.{FirstFault}
-use Rattle.session_text.specs.declared.first.FirstFault.TheVariants as fault
+use Rattle.session_text.specs.SessionOf.{session_of}
+use Rattle.session_text.specs.declared.fault.SessionFault.{SessionFault}
+use Rattle.p4db_top.specs.Built.{is_built, scripts_of_first}
 use Rattle.p4db_top.specs.declared.note.Note.{Note}
 use Rattle.p4db_top.specs.declared.note.Note.TheVariants.{Done, Usage, ReadFault, InputTooLong, WriteFault, Session, NotBuilt, NoMemory}
-use Rattle.p4db_top.specs.declared.note.SessionFault.TheVariants.{NotJson}
 use Rattle.p4db_top.specs.FirstRun.{first_run, script_at, names_from}
 use Rattle.p4db_top.specs.Ran.{Ran, report_of}
 use Rattle.p4db_top.specs.Serial.{IsSerial, IsOnceEach}
@@ -22,39 +22,48 @@ most_input = 16777216
 abbrev pub IsRun : List (List ℕ) → Type 0
 IsRun words = words ≡ codes "run" ∷ []
 
--- the source was read to its end, and all that was left in it is the text of this session
-pub record Reads (left rest : Option (List ℕ)) (session : First) : Type 0 where
+-- the source was read to its end, and all that was left in it is the text of this session, which is one that is run
+pub record Reads (left rest : Option (List ℕ)) (session : Plan) : Type 0 where
   pub bytes : List ℕ
   pub taken : TakesAll most_input left rest bytes
-  pub is : first_session bytes ≡ Ok session
+  pub is : session_of bytes ≡ Ok session
+  pub built : is_built session ≡ true
 
 -- the run of a session
-abbrev pub run_of : First → Ran
-run_of session = first_run session.tuples session.scripts
+abbrev pub run_of : Plan → Ran
+run_of session = first_run session.tuples (scripts_of_first session)
 
 -- the whole output for a session
-abbrev pub output_of : First → List ℕ
+abbrev pub output_of : Plan → List ℕ
 output_of session = report (report_of (run_of session))
 
 -- What stands behind status 0: which session was read, what was printed of its run, and that the run's transactions,
 -- each once and each client's in its order, sorted by printed stamp, are a serial run that gives exactly the printed
 -- replies and final tuples.
 pub record Headline (left rest before after : Option (List ℕ)) : Type 0 where
-  pub session : First
+  pub session : Plan
   pub reads : Reads left rest session
   pub printed : Appends before after (output_of session)
-  pub serial : IsSerial (script_at session.scripts) session.tuples (run_of session)
-  pub once_each : IsOnceEach (names_from 1 session.scripts) (run_of session)
+  pub serial : IsSerial (script_at (scripts_of_first session)) session.tuples (run_of session)
+  pub once_each : IsOnceEach (names_from 1 (scripts_of_first session)) (run_of session)
 
 -- all that was left was read, and it is refused as the text of a session, for this cause
-pub record Refuses (left rest : Option (List ℕ)) (fault : FirstFault) : Type 0 where
+pub record Refuses (left rest : Option (List ℕ)) (fault : SessionFault) : Type 0 where
   pub bytes : List ℕ
   pub taken : TakesAll most_input left rest bytes
-  pub is : first_session bytes ≡ Err fault
+  pub is : session_of bytes ≡ Err fault
+
+-- all that was left was read, and it is the text of a session that isn't run yet
+pub record IsNotBuilt (left rest : Option (List ℕ)) : Type 0 where
+  pub bytes : List ℕ
+  pub taken : TakesAll most_input left rest bytes
+  pub session : Plan
+  pub is : session_of bytes ≡ Ok session
+  pub not_built : is_built session ≡ false
 
 -- a session was read, and a front of its output was written
 pub record WritesFront (left rest before after : Option (List ℕ)) : Type 0 where
-  pub session : First
+  pub session : Plan
   pub reads : Reads left rest session
   pub printed : AppendsFront before after (output_of session)
 
@@ -62,8 +71,8 @@ pub record WritesFront (left rest before after : Option (List ℕ)) : Type 0 whe
 abbrev pub StopsReading : Note → (left rest : Option (List ℕ)) → Type 0
 StopsReading ReadFault left rest = TakesWithin most_input left rest
 StopsReading InputTooLong left rest = TakesBeyond most_input left rest
-StopsReading (Session NotJson) left rest = Refuses left rest fault.NotJson
-StopsReading NotBuilt left rest = Refuses left rest fault.NotBuilt
+StopsReading (Session fault) left rest = Refuses left rest fault
+StopsReading NotBuilt left rest = IsNotBuilt left rest
 StopsReading NoMemory left rest = TakesWithin most_input left rest
 StopsReading Done left rest = ⊥
 StopsReading Usage left rest = ⊥
@@ -76,6 +85,6 @@ Explains Usage left rest before after = ⊥
 Explains ReadFault left rest before after = TakesWithin most_input left rest × (after ≡ before)
 Explains InputTooLong left rest before after = TakesBeyond most_input left rest × (after ≡ before)
 Explains WriteFault left rest before after = WritesFront left rest before after
-Explains (Session NotJson) left rest before after = Refuses left rest fault.NotJson × (after ≡ before)
-Explains NotBuilt left rest before after = Refuses left rest fault.NotBuilt × (after ≡ before)
+Explains (Session fault) left rest before after = Refuses left rest fault × (after ≡ before)
+Explains NotBuilt left rest before after = IsNotBuilt left rest × (after ≡ before)
 Explains NoMemory left rest before after = (TakesWithin most_input left rest × (after ≡ before)) ⊎ WritesFront left rest before after

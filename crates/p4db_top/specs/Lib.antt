@@ -1,3 +1,4 @@
+pub mod Built
 pub mod Ran
 pub mod Serial
 pub mod FirstRun

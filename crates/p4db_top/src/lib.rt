@@ -4,11 +4,13 @@
 //! are handed in.
 #![tactic(auto)]
 
+mod built;
 mod first_run;
 mod note;
 mod top;
 
-pub use note::{Note, SessionFault};
+pub use note::Note;
+pub use session_text::{Limit, OpAt, Section, SessionFault};
 pub use top::{Ended, command};
 
 #[cfg(test)]

@@ -31,7 +31,12 @@ fn texts_get_these_answers(rt: HostRuntime) -> Result<(), Fail> {
             Note::Session(SessionFault::NotJson),
             "",
         ),
-        (["run"].as_slice(), "1", Note::NotBuilt, ""),
+        (
+            ["run"].as_slice(),
+            "1",
+            Note::Session(SessionFault::BadShape(Section::Whole)),
+            "",
+        ),
         (["run", "5"].as_slice(), SESSION, Note::Usage, ""),
         (["help"].as_slice(), SESSION, Note::Usage, ""),
         ([].as_slice(), SESSION, Note::Usage, ""),

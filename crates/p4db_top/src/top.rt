@@ -1,17 +1,22 @@
 //! The top call.
 
-ghost use Rattle.std.specs.Prelude.{◌≡◌, ◌≢◌, ◌≤◌, ℕ, List, ◌↔◌, ◌⊎◌, [], ◌∷◌, Some, Ok, Err, codes, length, IsTrue, IfOk, IfErr, string_bytes};
+ghost use Rattle.std.specs.Prelude.{◌≡◌, ◌≢◌, ◌≤◌, ℕ, List, ◌↔◌, ◌⊎◌, [], ◌∷◌, true, Some, Ok, Err, codes, length, IsTrue, IfOk, IfErr, string_bytes};
 ghost use Rattle.port_io.specs.Cause.{Rose, HasCause};
-ghost use Rattle.session_text.specs.First.{First, first_session, first_view};
-ghost use Rattle.session_text.specs.Runnable.{IsRunnable};
+ghost use Rattle.catalogue.specs.Plan.{Plan};
+ghost use Rattle.catalogue.specs.PlanOf.{plan_of};
+ghost use Rattle.catalogue.specs.Sound.{IsSound};
+ghost use Rattle.session_text.specs.SessionOf.{session_of};
+ghost use Rattle.p4db_top.specs.Built.{is_built};
 ghost use Rattle.p4db_top.specs.Headline.{most_input, IsRun, Reads, Headline, StopsReading, Explains, output_of};
 ghost use Rattle.p4db_top.specs.Status.{status_of};
 
+use crate::built::{first_scripts, is_built};
 use crate::first_run::FinishedRun;
-use crate::note::{Note, SessionFault};
+use crate::note::Note;
+use catalogue::Session;
 use port_io::{LogRack, ReadAllFault, Sink, SinkFault, Source, Word, read_all, write_all};
 use report_text::report_text;
-use session_text::{FirstFault, FirstSession, read_first};
+use session_text::{SessionFault, read_session};
 use std::alloc::Global;
 use txn_model::NoMemory;
 
@@ -36,10 +41,10 @@ fn is_run(words: &[Word]) -> bool
     }
 }
 
-/// Reads the session that is all of the source's bytes.
-fn session_of<S: Source>(alloc: Global, source: &mut S) -> Result<FirstSession, Note>
-    ensures ok { IfOk result (λ s. Reads (S.left source.old) (S.left source.new) (first_view s)) }
-    ensures sound { IfOk result (λ s. IsRunnable (first_view s)) }
+/// Reads the session that is all of the source's bytes, if it is one that is run.
+fn session_of<S: Source>(alloc: Global, source: &mut S) -> Result<Session, Note>
+    ensures ok { IfOk result (λ s. Reads (S.left source.old) (S.left source.new) (plan_of s)) }
+    ensures sound { IfOk result (λ s. IsSound (plan_of s)) }
     ensures err { IfErr result (λ note. StopsReading note (S.left source.old) (S.left source.new)) }
     ensures cause { HasCause (S.faults source.old) (S.faults source.new) (result ≡ Err Note.ReadFault) }
 {
@@ -49,20 +54,26 @@ fn session_of<S: Source>(alloc: Global, source: &mut S) -> Result<FirstSession, 
         Err(ReadAllFault::TooLong) => return Err(Note::InputTooLong),
         Err(ReadAllFault::NoMemory) => return Err(Note::NoMemory),
     };
-    match read_first(alloc, bytes.as_slice()) {
-        Ok(session) => Ok(session),
-        Err(FirstFault::NotJson) => Err(Note::Session(SessionFault::NotJson)),
-        Err(FirstFault::NotBuilt) => Err(Note::NotBuilt),
-        Err(FirstFault::NoMemory) => Err(Note::NoMemory),
+    match read_session(alloc, bytes.as_slice()) {
+        Ok(session) => {
+            if is_built(&session) {
+                Ok(session)
+            } else {
+                Err(Note::NotBuilt)
+            }
+        }
+        Err(SessionFault::NoMemory) => Err(Note::NoMemory),
+        Err(fault) => Err(Note::Session(fault)),
     }
 }
 
 /// The whole output for a session.
-fn text_of(alloc: Global, session: FirstSession) -> Result<String, NoMemory>
-    requires { IsRunnable (first_view session) }
-    ensures { IfOk result (λ text. string_bytes text ≡ output_of (first_view session)) }
+fn text_of(alloc: Global, session: Session) -> Result<String, NoMemory>
+    requires { IsSound (plan_of session) }
+    ensures { IfOk result (λ text. string_bytes text ≡ output_of (plan_of session)) }
 {
-    let run = FinishedRun::of(alloc, session.tuples, session.scripts.as_slice())?;
+    let scripts = first_scripts(alloc, &session)?;
+    let run = FinishedRun::of(alloc, session.tuples, scripts.as_slice())?;
     report_text(
         alloc,
         run.items.as_slice(),
@@ -121,9 +132,9 @@ pub fn command<S: Source, K: Sink, L: LogRack + Send>(
     ensures write_cause { HasCause (K.faults sink.old) (K.faults sink.new) (result.note ≡ Note.WriteFault) }
 
     // A session within the limit is run, unless a call failed or memory ran out.
-    ensures complete { (bytes : List ℕ) (session : First) → IsRun words.now → S.left source.old ≡ Some bytes
-        → length bytes ≤ most_input → first_session bytes ≡ Ok session
-        → (Rose (S.faults source.old) (S.faults source.new) → ⊥) → (Rose (K.faults sink.old) (K.faults sink.new) → ⊥)
+    ensures complete { (bytes : List ℕ) (session : Plan) → IsRun words.now → S.left source.old ≡ Some bytes
+        → length bytes ≤ most_input → session_of bytes ≡ Ok session
+        → is_built session ≡ true → (Rose (S.faults source.old) (S.faults source.new) → ⊥) → (Rose (K.faults sink.old) (K.faults sink.new) → ⊥)
         → (result.note ≡ Note.Done) ⊎ (result.note ≡ Note.NoMemory) }
     ensures logs { result.logs ≡ logs }
 {

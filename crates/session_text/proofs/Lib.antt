@@ -1,4 +1,3 @@
-pub mod RunnableLemmas
 pub mod ScriptRules
 pub mod ItemLists
 pub mod WithinLimits

@@ -4,5 +4,3 @@ pub mod Built
 pub mod FirstPlace
 pub mod Rules
 pub mod SessionOf
-pub mod First
-pub mod Runnable

@@ -81,7 +81,3 @@ over_count w =
 -- the first limit that isn't kept
 unfoldable pub over_limit : Written → Option Limit
 over_limit w = over_size w.shape (over_count w)
-
--- each limit is kept
-abbrev pub is_within_limits : Written → Bool
-is_within_limits w = is_none (over_limit w)

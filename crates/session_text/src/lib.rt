@@ -7,14 +7,12 @@
 mod build;
 mod check;
 mod fault;
-mod first;
 mod limits;
 mod rule;
 mod session;
 mod words;
 
 pub use fault::{Limit, OpAt, SessionFault};
-pub use first::{FirstFault, FirstSession, Scripts, read_first};
 pub use session::read_session;
 pub use session_draft::Section;
 

@@ -1,5 +1,6 @@
 use Rattle.std.proofs.Common.{◌∙◌, sym, ap, arith}
 use Rattle.p4db_top.specs.Status.{status_of}
+use Rattle.p4db_top.proofs.Complete.{complete_from}
 use Rattle.p4db_top.proofs.Statuses.{headline_from_status}
 use Rattle.p4db_top.proofs.top.command.Goals.{then-is_run, else-is_run}
 use Rattle.p4db_top.proofs.top.command.Goals as goal
@@ -10,4 +11,12 @@ returns-clause-headline g c zero =
     elim c.if-is_run.branch [
       | then-is_run w ↦ rw (w.source-is, w.sink-is) (headline_from_status w.run-note.result _ _ _ _ (sym (ap status_of w.note-is) ∙ status) w.run-note.ensures.explained)
       | else-is_run w ↦ absurd (omega (arith, ap status_of w.note-is, status))
+    ]
+
+pub returns-clause-complete : goal.returns-clause-complete
+returns-clause-complete g c bytes session is_run left few is built no_read no_write =
+    elim c.if-is_run.branch [
+      | then-is_run w ↦ rw w.note-is (complete_from w.run-note.result _ _ _ bytes session (rw left at w.run-note.ensures.explained) few is built
+          (λ r. no_read (rw w.source-is (w.run-note.ensures.read_cause.rose r))) (λ r. no_write (rw w.sink-is (w.run-note.ensures.write_cause.rose r))))
+      | else-is_run w ↦ absurd (cc (w.if-is_run.false, c.is_run.ensures.1 is_run))
     ]
