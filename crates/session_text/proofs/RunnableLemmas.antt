@@ -1,8 +1,7 @@
 -- A first session that was tested can be run.
-use Rattle.std.proofs.Common.{◌≡◌, ℕ, ◌≤◌, Bool, true, false, ◌&&◌, IsTrue, List, [], ◌∷◌, map, length, nat_le, sum_by, Option, Some, None, is_some, is_none, IsSome, refl, sym, ap, ◌∙◌, arith}
+use Rattle.std.proofs.Common.{◌≡◌, Bool, true, false, ◌&&◌, IsTrue, List, [], ◌∷◌, map, length, sum_by, Option, Some, None, is_some, is_none, IsSome, refl, sym, ap, ◌∙◌, arith}
 use Rattle.std.specs.FinMap.{get, entries, is_sorted}
 use Rattle.std.specs.List.{list_all, flat_map, AllByRecursion}
-use Rattle.std.proofs.lemmas.Bool.Decides.{nat_tests}
 use Rattle.std.proofs.lemmas.List.{length-map}
 use Rattle.std.proofs.lemmas.List.Concat.{length-flat_map}
 use Rattle.txn_model.specs.ScriptCheck.{script_fault}
