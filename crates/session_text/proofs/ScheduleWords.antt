@@ -1,5 +1,5 @@
 -- The words of a schedule, and the actors of those that were read so far.
-use Rattle.std.proofs.Common.{◌≡◌, ℕ, ◌==◌, Bool, false, List, ◌++◌, length, Result, Ok, Err, refl}
+use Rattle.std.proofs.Common.{◌≡◌, ℕ, ◌==◌, false, List, ◌++◌, length, Result, Ok, Err, refl}
 use Rattle.std.specs.List.{slice_split}
 use Rattle.catalogue.specs.declared.actor.Actor.{Actor}
 use Rattle.session_text.specs.SessionOf.{words_of}

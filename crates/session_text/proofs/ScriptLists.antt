@@ -1,5 +1,5 @@
 -- What holds of each script of a session.
-use Rattle.std.proofs.Common.{◌≡◌, ℕ, ◌+◌, ◌≤◌, Bool, true, false, ◌&&◌, List, [], ◌∷◌, map, length, get_or, All, Option, Some, None, option_map, refl, ap, subst, ◌∙◌, arith, rules}
+use Rattle.std.proofs.Common.{◌≡◌, ℕ, ◌+◌, Bool, true, false, ◌&&◌, List, [], ◌∷◌, map, get_or, All, Option, Some, None, option_map, refl, arith, rules}
 use Rattle.std.specs.List.{list_all}
 use Rattle.std.specs.Option.{option_or}
 use Rattle.std.proofs.lemmas.Bool.Decides.{nat_tests}
@@ -8,12 +8,11 @@ use Rattle.std.proofs.lemmas.List.Elements.{All-cons}
 use Rattle.txn_model.specs.ScriptCheck.{first_repeat, first_bad_use, script_fault}
 use Rattle.txn_model.specs.declared.op.Op.{Op}
 use Rattle.catalogue.specs.Plan.{PlainItem, Run, Lose}
-use Rattle.session_draft.specs.Written.{WrittenOp, WrittenItem, run, lose, Written}
+use Rattle.session_draft.specs.Written.{WrittenItem, run, lose, Written}
 use Rattle.session_text.specs.Built.{op_of, item_of}
 use Rattle.session_text.specs.FirstPlace.{first_in_item, first_in_items, first_in_clients, first_place}
-use Rattle.session_text.specs.Limits.{is_between, of_script, has_ops_that_fit, over_limit}
+use Rattle.session_text.specs.Limits.{of_script, has_ops_that_fit, over_limit}
 use Rattle.session_text.specs.Rules.{HasOps, OfScript}
-use Rattle.session_text.specs.declared.fault.OpAt.{OpAt}
 use Rattle.session_text.proofs.ScriptRules.{no_fault}
 use Rattle.session_text.proofs.WithinLimits.{within}
 

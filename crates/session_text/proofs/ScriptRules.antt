@@ -1,9 +1,8 @@
 -- What the fault of a script says of its first operation that breaks a rule.
-use Rattle.std.proofs.Common.{◌≡◌, ℕ, ◌≤◌, List, [], length, Option, Some, None, option_and_then, refl, ap, ◌∙◌, arith}
+use Rattle.std.proofs.Common.{◌≡◌, ℕ, List, [], Option, Some, None, option_and_then, refl, ap, ◌∙◌, arith}
 use Rattle.std.proofs.lemmas.Bool.Decides.{nat_tests}
 use Rattle.txn_model.specs.ScriptCheck.{first_repeat, first_bad_use, first_of, script_fault}
 use Rattle.txn_model.specs.declared.op.Op.{Op}
-use Rattle.txn_model.specs.declared.script.ScriptFault.{ScriptFault}
 use Rattle.txn_model.specs.declared.script.ScriptFault.TheVariants.{TupleTwice, BadUse}
 use Rattle.session_text.specs.Rules.{HasOps, repeat_in, bad_use_in}
 

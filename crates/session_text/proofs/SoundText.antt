@@ -2,7 +2,7 @@
 use Rattle.std.proofs.Common.{◌≡◌, ℕ, ◌+◌, ◌≤◌, Bool, true, false, IsTrue, List, [], ◌∷◌, map, length, All, get_or, Option, Some, None, is_some, IsSome, Result, Ok, Err, IfOk, if◌then◌else◌, refl, sym, ap, subst, ◌∙◌, arith, rules}
 use Rattle.std.specs.Bool.{⊤}
 use Rattle.std.specs.FinMap as fin
-use Rattle.std.specs.FinMap.{is_sorted, from_sorted}
+use Rattle.std.specs.FinMap.{is_sorted}
 use Rattle.std.specs.Option.{ok_or}
 use Rattle.std.proofs.lemmas.List.{length-map}
 use Rattle.std.proofs.lemmas.List.Elements.{All-cons}

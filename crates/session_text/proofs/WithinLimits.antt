@@ -1,5 +1,5 @@
 -- What it means that a session that is written keeps each limit.
-use Rattle.std.proofs.Common.{◌≡◌, ℕ, ◌<◌, ◌≤◌, ◌^◌, Bool, true, false, ◌&&◌, List, [], ◌∷◌, map, length, nat_le, sum_by, get_or, All, Vec, Option, Some, None, refl, sym, ap, ◌∙◌, arith}
+use Rattle.std.proofs.Common.{◌≡◌, ℕ, ◌<◌, ◌≤◌, ◌^◌, Bool, true, false, List, [], ◌∷◌, map, length, nat_le, sum_by, get_or, All, Vec, Option, None, refl, sym, ap, ◌∙◌, arith}
 use Rattle.std.specs.Global.{Global}
 use Rattle.std.specs.List.{list_all}
 use Rattle.std.proofs.lemmas.Bool.Decides.{nat_tests}
@@ -7,14 +7,12 @@ use Rattle.std.proofs.lemmas.List.{length-map, get_or-map}
 use Rattle.std.proofs.lemmas.List.Sums.{get_or-le-sum_by, sum_by-cons}
 use Rattle.stage_layout.specs.Shape.{IsShape}
 use Rattle.catalogue.specs.Items.{plain_item, plain_items, plain_lists}
-use Rattle.catalogue.specs.Plan.{PlainItem}
 use Rattle.catalogue.specs.declared.item.Item.{Item}
 use Rattle.session_draft.specs.Written.{WrittenItem, Written}
-use Rattle.session_draft.specs.declared.draft.ShapeDraft.{ShapeDraft}
 use Rattle.session_text.specs.Built.{item_of, shape_of}
-use Rattle.session_text.specs.Limits.{is_between, stages_fit, arrays_fit, cells_fit, split_fits, hosts_fit, tuples_fit, layout_fits, tries_fit, clients_fit, items_fit, ops_fit, needs_fit, of_script, has_ops_that_fit, broken, over_size, over_count, over_limit}
+use Rattle.session_text.specs.Limits.{is_between, stages_fit, arrays_fit, cells_fit, split_fits, hosts_fit, tuples_fit, layout_fits, tries_fit, clients_fit, items_fit, ops_fit, of_script, has_ops_that_fit, broken, over_limit}
 use Rattle.session_text.specs.declared.fault.Limit.{Limit}
-use Rattle.session_text.specs.declared.fault.Limit.TheVariants.{Stages, Arrays, Cells, Split, Hosts, Tuples, Layout, Tries, Clients, Items, Ops, Needs}
+use Rattle.session_text.specs.declared.fault.Limit.TheVariants.{Stages, Arrays, Cells, Split, Hosts, Tuples, Layout, Tries, Clients, Items, Ops}
 
 pub record Within (w : Written) : Type 0 where
   pub shape : IsShape (shape_of w.shape)

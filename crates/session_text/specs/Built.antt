@@ -1,7 +1,6 @@
 -- The session that is written, as a plan.
-use Rattle.std.specs.Prelude.{◌==◌, Bool, List, [], ◌∷◌, map, length, if◌then◌else◌}
+use Rattle.std.specs.Prelude.{List, [], ◌∷◌, map}
 use Rattle.std.specs.FinMap.{from_sorted}
-use Rattle.std.specs.List.{slice_split}
 use Rattle.txn_model.specs.declared.op.Need.{Need}
 use Rattle.txn_model.specs.declared.op.Needs.{Needs}
 use Rattle.txn_model.specs.declared.op.Needs.TheVariants.{Zero, One, Two, Three, Four}

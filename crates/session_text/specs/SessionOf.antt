@@ -1,6 +1,6 @@
 -- The session that a text is, or the first fault of the text: each is searched for in the whole text before
 -- the next one is.
-use Rattle.std.specs.Prelude.{ℕ, ◌+◌, ◌==◌, List, [], ◌∷◌, length, Option, if◌then◌else◌, Result, Ok, Err, ⊤}
+use Rattle.std.specs.Prelude.{ℕ, ◌+◌, ◌==◌, List, [], ◌∷◌, length, if◌then◌else◌, Result, Ok, ⊤}
 use Rattle.std.specs.List.{slice_split}
 use Rattle.std.specs.Option.{ok_or}
 use Rattle.txn_model.specs.ScriptCheck.{first_repeat, first_bad_use}

@@ -120,56 +120,60 @@ fn rules_between_sections(rt: HostRuntime) -> Result<(), Fail> {
         (
             "[[],[\"lose\",[[\"read\",2],[\"add\",9,1,[]]]]]",
             "[[9,0,0,0]]",
-            "x",
+            "\"x\"",
             SessionFault::BadTuple(at(1, 2, 1)),
         ),
         // A bad place in any row comes before a place that is taken.
         (
             "[[[[\"read\",2],[\"read\",2]]]]",
             "[[2,0,0,0],[3,0,0,0],[1,12,0,0]]",
-            "x",
+            "\"x\"",
             SessionFault::BadPlace(2),
         ),
         (
             "[[[[\"read\",2],[\"read\",2]]]]",
             "[[2,0,0,0],[3,0,0,0],[9,0,0,1]]",
-            "x",
+            "\"x\"",
             SessionFault::BadPlace(2),
         ),
         (
             "[[[[\"read\",2],[\"read\",2]]]]",
             "[[2,0,0,0],[3,0,0,0],[2,1,0,0]]",
-            "x",
+            "\"x\"",
             SessionFault::PlaceTwice(1),
         ),
         // A tuple that is named twice in any script comes before a bad use.
         (
             "[[[[\"add\",2,1,[[\"old\",0]]]],[[\"read\",3],[\"read\",2],[\"read\",3]]]]",
             "[]",
-            "x",
+            "\"x\"",
             SessionFault::TupleTwice(at(0, 2, 2)),
         ),
         (
             "[[[[\"read\",2]]],[[[\"read\",2],[\"add\",3,1,[[\"old\",0],[\"moved\",1]]]]]]",
             "[]",
-            "x",
+            "\"x\"",
             SessionFault::BadUse(at(1, 1, 1)),
         ),
         // Tuple 3 is late, since it needs tuple 2, which is hot.
         (
             "[[[[\"read\",2],[\"add\",3,1,[[\"old\",0]]],[\"add\",4,1,[[\"old\",1]]]]]]",
             "[[2,0,0,0],[4,1,0,0]]",
-            "x",
+            "\"x\"",
             SessionFault::BadTurn(at(0, 1, 2)),
         ),
-        ("[[]]", "[]", "c0 p0 s11 r c1", SessionFault::BadActor(4)),
-        ("[[]]", "[]", "c0  r", SessionFault::BadActor(1)),
-        ("[[]]", "[]", " ", SessionFault::BadActor(0)),
-        ("[[]]", "[]", "r ", SessionFault::BadActor(1)),
+        (
+            "[[]]",
+            "[]",
+            "\"c0 p0 s11 r c1\"",
+            SessionFault::BadActor(4),
+        ),
+        ("[[]]", "[]", "\"c0  r\"", SessionFault::BadActor(1)),
+        ("[[]]", "[]", "\" \"", SessionFault::BadActor(0)),
+        ("[[]]", "[]", "\"r \"", SessionFault::BadActor(1)),
     ];
     for (clients, layout, schedule, expected) in cases {
-        let schedule = format!(in rt.alloc(); "\"{schedule}\"")?;
-        let sections = [SHAPE, TUPLES, layout, "16", clients, schedule.as_str()];
+        let sections = [SHAPE, TUPLES, layout, "16", clients, schedule];
         let text = text(rt.alloc(), sections)?;
         let fault = read_session(rt.alloc(), text.as_bytes()).err();
         assert_eq!(rt; fault, Some(expected), "{text}");
