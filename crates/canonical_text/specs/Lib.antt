@@ -1,0 +1,4 @@
+pub mod SessionData
+pub mod Canonical
+pub mod AsWritten
+pub mod Typed
