@@ -1,2 +1,5 @@
 pub mod Loops
 pub mod Shallow
+pub mod ReadsBack
+pub mod SoundItems
+pub mod WholeReadsBack

@@ -9,7 +9,6 @@ use Rattle.txn_model.specs.declared.op.Act.TheVariants.{Read, Put, Add, Choose}
 use Rattle.txn_model.specs.declared.op.Need.{Need}
 use Rattle.txn_model.specs.declared.op.Op.{Op}
 use Rattle.txn_model.specs.declared.op.TupleId.{TupleId}
-use Rattle.txn_model.specs.declared.place.Place.{Place}
 use Rattle.stage_layout.specs.declared.layout.LayoutRow.{LayoutRow}
 use Rattle.stage_layout.specs.declared.shape.Shape.{Shape}
 use Rattle.catalogue.specs.Plan.{Plan, PlainItem, Run, Lose}
@@ -20,11 +19,11 @@ IsTypedTuple tuple = tuple.0 < 2 ^ 32
 abbrev pub IsTypedRow : TupleId × ℤ → Type 0
 IsTypedRow row = IsTypedTuple row.0 × FitsSigned w64 row.1
 
-abbrev pub IsTypedPlace : Place → Type 0
-IsTypedPlace place = (place.stage < 2 ^ 8) × (place.array < 2 ^ 8) × (place.cell < 2 ^ 16)
-
-abbrev pub IsTypedLayoutRow : LayoutRow → Type 0
-IsTypedLayoutRow row = IsTypedTuple row.tuple × IsTypedPlace row.place
+pub record IsTypedLayoutRow (row : LayoutRow) : Type 0 where
+  pub tuple : IsTypedTuple row.tuple
+  pub stage : row.place.stage < 2 ^ 8
+  pub array : row.place.array < 2 ^ 8
+  pub cell : row.place.cell < 2 ^ 16
 
 abbrev pub IsTypedNeed : Need → Type 0
 IsTypedNeed need = need.from < 2 ^ 8

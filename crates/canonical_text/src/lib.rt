@@ -5,9 +5,11 @@
 #![tactic(auto)]
 
 mod item;
+mod laws;
 mod section;
 mod write;
 
+pub use laws::reads_back;
 pub use write::write_session;
 
 #[cfg(test)]

@@ -1,9 +1,12 @@
 //! Writing a session.
 
-ghost use Rattle.std.specs.Prelude.{◌≡◌, IfOk, Some};
+ghost use Rattle.std.specs.Prelude.{◌≡◌, IfOk, Some, Ok};
 ghost use Rattle.serde_json.specs.View.{view};
 ghost use Rattle.catalogue.specs.PlanOf.{plan_of};
+ghost use Rattle.catalogue.specs.Sound.{IsSound};
+ghost use Rattle.session_draft.specs.Draft.{draft_of_bytes};
 ghost use Rattle.session_draft.specs.Json.{json_of};
+ghost use Rattle.canonical_text.specs.AsWritten.{written_of};
 ghost use Rattle.canonical_text.specs.Canonical.{canonical};
 ghost use Rattle.canonical_text.specs.SessionData.{data_of};
 ghost use Rattle.canonical_text.specs.Typed.{IsTyped};
@@ -34,10 +37,13 @@ fn session_value(alloc: Global, session: &Session) -> Result<Value, AllocError>
     })
 }
 
-/// The canonical text of the session, in time and memory linear in it.
+/// The canonical text of the session, in time and memory linear in it. Where the session is sound, the
+/// text is read as the draft that the session is. The one error is that memory runs out.
 pub fn write_session(alloc: Global, session: &Session) -> Result<Vec<u8>, NoMemory>
     ensures text { IfOk result (λ text. text.items ≡ canonical (plan_of session.now)) }
     ensures json { IfOk result (λ text. json_of text.items ≡ Some (data_of (plan_of session.now))) }
+    ensures draft { IfOk result (λ text. IsSound (plan_of session.now)
+        → draft_of_bytes text.items ≡ Ok (written_of (plan_of session.now))) }
     ensures typed { IfOk result (λ _. IsTyped (plan_of session.now)) }
 {
     Ok(session_value(alloc, session)?.to_vec(alloc)?)

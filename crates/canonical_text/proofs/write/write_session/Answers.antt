@@ -1,12 +1,9 @@
-use Rattle.std.proofs.Common.{◌≤◌, Some, sym, ap, ◌∙◌, subst}
-use Rattle.serde_json.specs.Data.{depth}
-use Rattle.serde_json.specs.Read.{max_depth}
+use Rattle.std.proofs.Common.{ap, ◌∙◌}
 use Rattle.serde_json.specs.Written.{compact_text, has_float}
 use Rattle.catalogue.specs.PlanOf.{plan_of}
-use Rattle.session_draft.proofs.BytesAsJson.{json_of-some}
 use Rattle.canonical_text.specs.Canonical.{canonical}
-use Rattle.canonical_text.specs.SessionData.{data_of}
-use Rattle.canonical_text.proofs.Shallow.{session_floats, session_deep}
+use Rattle.canonical_text.proofs.Shallow.{session_floats}
+use Rattle.canonical_text.proofs.WholeReadsBack.{bytes_read, draft_read}
 use Rattle.canonical_text.proofs.write.write_session.Goals as goal
 
 pub returns-clause-text : goal.returns-clause-text
@@ -17,6 +14,10 @@ returns-clause-text c =
 
 pub returns-clause-json : goal.returns-clause-json
 returns-clause-json c =
-    let is = c.in_ok-session_value.ensures.data in
-    let deep = subst (λ d. depth d ≤ max_depth) (sym is) (session_deep (plan_of c.args.session.now)) in
-    json_of-some c.in_ok-to_vec.field-0.items (data_of (plan_of c.args.session.now)) c.in_ok-to_vec.ensures.utf8 (c.in_ok-to_vec.ensures.reads_back deep ∙ ap Some is)
+    bytes_read (plan_of c.args.session.now) c.in_ok-to_vec.field-0.items _ c.in_ok-session_value.ensures.data c.in_ok-to_vec.ensures.utf8 c.in_ok-to_vec.ensures.reads_back
+
+pub returns-clause-draft : goal.returns-clause-draft
+returns-clause-draft c sound =
+    draft_read (plan_of c.args.session.now) c.in_ok-to_vec.field-0.items
+    (bytes_read (plan_of c.args.session.now) c.in_ok-to_vec.field-0.items _ c.in_ok-session_value.ensures.data c.in_ok-to_vec.ensures.utf8 c.in_ok-to_vec.ensures.reads_back)
+    sound c.in_ok-session_value.ensures.typed
