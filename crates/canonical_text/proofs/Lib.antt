@@ -3,3 +3,5 @@ pub mod Shallow
 pub mod ReadsBack
 pub mod SoundItems
 pub mod WholeReadsBack
+pub mod JsonParts
+pub mod SessionJson

@@ -1,8 +1,13 @@
 //! Laws of canonical texts, over the definitions alone.
 
-ghost use Rattle.canonical_text.specs.Laws.{ReadsBack};
+ghost use Rattle.canonical_text.specs.Laws.{ValueReadsBack, TextReadsBack};
 
-/// A sound session, written as a value and read by the grammar, is the same session.
-pub fn reads_back()
-    ensures { ReadsBack }
+/// The value of a sound session, read by the grammar, is the draft that the session is.
+pub fn values_read_back()
+    ensures { ValueReadsBack }
+{}
+
+/// The canonical text of a sound session, read by the grammar, is the draft that the session is.
+pub fn texts_read_back()
+    ensures { TextReadsBack }
 {}
