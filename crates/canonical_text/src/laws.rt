@@ -1,0 +1,13 @@
+//! Laws of canonical texts, over the definitions alone.
+
+ghost use Rattle.canonical_text.specs.Laws.{ValueReadsBack, TextReadsBack};
+
+/// The value of a sound session, read by the grammar, is the draft that the session is.
+pub fn values_read_back()
+    ensures { ValueReadsBack }
+{}
+
+/// The canonical text of a sound session, read by the grammar, is the draft that the session is.
+pub fn texts_read_back()
+    ensures { TextReadsBack }
+{}
