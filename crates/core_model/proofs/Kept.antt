@@ -1,5 +1,5 @@
 -- Each move keeps the facts.
-use Rattle.std.proofs.Common.{◌≡◌, ◌≢◌, ℕ, zero, suc, ◌+◌, ◌-◌, ◌<◌, ◌≤◌, ◌==◌, ◌||◌, ◌++◌, nat_lt, Bool, true, false, List, [], ◌∷◌, map, length, take, slice_get, Option, Some, None, refl, sym, ap, subst, ◌∙◌, arith, if◌then◌else◌, option_map}
+use Rattle.std.proofs.Common.{◌≡◌, ◌≢◌, ℕ, zero, suc, ◌+◌, ◌-◌, ◌<◌, ◌≤◌, ◌==◌, ◌||◌, ◌++◌, Bool, true, false, List, [], ◌∷◌, map, length, take, slice_get, Option, Some, None, inl, inr, refl, sym, ap, subst, ◌∙◌, arith, if◌then◌else◌}
 use Rattle.std.specs.Option.{option_and_then}
 use Rattle.std.specs.Prelude.{IsSome}
 use Rattle.std.proofs.lemmas.Bool.Decides.{nat_tests}
@@ -13,13 +13,13 @@ use Rattle.history_model.specs.Chain.{Step, steps_of}
 use Rattle.history_model.specs.History.{HistoryEntry, AllAnswered}
 use Rattle.catalogue.specs.Plan.{Plan, items_of}
 use Rattle.catalogue.specs.declared.actor.Actor.{Actor}
-use Rattle.catalogue.specs.declared.actor.Actor.TheVariants.{Client, Port, Stage, Recover}
 use Rattle.core_model.specs.declared.phase.Phase.{Phase}
-use Rattle.core_model.specs.declared.phase.Phase.TheVariants.{Ready, Locking, Aborting, Logged, Waiting, Installing, Finished}
+use Rattle.core_model.specs.declared.phase.Phase.TheVariants.{Ready, Locking, Aborting, Installing}
 use Rattle.core_model.specs.State.{ClientState, State, client_at, script_now, seen_at}
+use Rattle.core_model.specs.Asking.{IsAsking}
 use Rattle.core_model.specs.Locks.{cold_ops, clashes, holder}
 use Rattle.core_model.specs.Decision.{pairs_from, greatest, next_sub}
-use Rattle.core_model.specs.Step.{moved, next_item, aborting, granted, refused, by_holder, released, decided, installed_one, installed, asks_or_decides, client_step, step}
+use Rattle.core_model.specs.Step.{moved, next_item, aborting, granted, refused, released, decided, installed_one, installed, step}
 use Rattle.core_model.specs.Run.{state_behind}
 use Rattle.core_model.specs.Facts.{Stands, FitsPhase, Facts, script_at, steps_now}
 use Rattle.core_model.proofs.Fewer.{KeepsLocks, kept_by_fewer}
@@ -28,6 +28,7 @@ use Rattle.core_model.proofs.Granted.{AllCold, kept_by_grant}
 use Rattle.core_model.proofs.StepsOf.{OnHosts, cold_ops-all, cold_steps-all}
 use Rattle.core_model.proofs.Decide.{all-with_entry, item_at_place, kept_by_decision}
 use Rattle.core_model.proofs.Install.{kept_by_installation}
+use Rattle.core_model.proofs.MoveKinds.{Move, Grants, Refuses, Releases, Decides, Installs, move_of, not_decided}
 use Rattle.core_model.proofs.Moves.{moved_client, others_stay, free_from, whole_front, front_taken, Fewer, at_beginning, aborts}
 
 -- a place without an item is past the end
@@ -77,7 +78,7 @@ distinct_places (o ∷ ops) zero (suc k) a b distinct lt ia ib =
 distinct_places (o ∷ ops) (suc i) (suc k) a b distinct lt ia ib = distinct_places ops i k a b distinct.1 (omega arith) ia ib
 
 -- the client behind an installation
-record Installs (plan : Plan) (c : ℕ) (x y : ClientState) : Type 0 where
+record IsInstalled (plan : Plan) (c : ℕ) (x y : ClientState) : Type 0 where
   pub fit : FitsPhase plan c y y.phase
   pub last : y.last ≡ x.last
   pub keeps : KeepsLocks plan c x y
@@ -86,7 +87,7 @@ record Installs (plan : Plan) (c : ℕ) (x y : ClientState) : Type 0 where
   pub same_steps : y.phase ≡ Installing → steps_now plan c y ≡ steps_now plan c x
   pub locks_decided : (k : ℕ) (o : Op) → Stands plan c y k o → y.phase ≡ Installing
 
-goes_on : (plan : Plan) (c : ℕ) (x : ClientState) → x.phase ≡ Installing → FitsPhase plan c x Installing → Installs plan c x (record x { installed = x.installed + 1 })
+goes_on : (plan : Plan) (c : ℕ) (x : ClientState) → x.phase ≡ Installing → FitsPhase plan c x Installing → IsInstalled plan c x (record x { installed = x.installed + 1 })
 goes_on plan c x is fit = record {
   fit = subst (λ (p : Phase). FitsPhase plan c (record x { installed = x.installed + 1 }) p) (sym is) (fit.0, fit.1);
   last = refl;
@@ -97,7 +98,7 @@ goes_on plan c x is fit = record {
   locks_decided = λ k o st. is;
 }
 
-ends : (plan : Plan) (c : ℕ) (x : ClientState) → (x.installed + 1 == length (steps_now plan c x)) ≡ true → FitsPhase plan c x Installing → Installs plan c x (next_item plan c x)
+ends : (plan : Plan) (c : ℕ) (x : ClientState) → (x.installed + 1 == length (steps_now plan c x)) ≡ true → FitsPhase plan c x Installing → IsInstalled plan c x (next_item plan c x)
 ends plan c x all fit =
     let next = at_beginning plan c (length (items_of plan c)) (x.seq + 1) x in
     record {
@@ -120,7 +121,7 @@ ends plan c x all fit =
     past k low high = omega (arith, equal (x.installed + 1) (length (steps_now plan c x)) all, fit.1)
 
 installs : (plan : Plan) (c : ℕ) (x : ClientState) (b : Bool) → (x.installed + 1 == length (steps_now plan c x)) ≡ b → x.phase ≡ Installing → FitsPhase plan c x Installing
-    → Installs plan c x (if b then next_item plan c x else record x { installed = x.installed + 1 })
+    → IsInstalled plan c x (if b then next_item plan c x else record x { installed = x.installed + 1 })
 installs plan c x true all is fit = ends plan c x all fit
 installs plan c x false all is fit = goes_on plan c x is fit
 
@@ -193,8 +194,8 @@ module _ (plan : Plan) (hosts : (c seq : ℕ) → OnHosts plan.layout (script_at
       y : ClientState
       y = installed_one plan c x (length (steps_now plan c x))
 
-      new : Installs plan c x (client_at (installed plan s c x p) c)
-      new = subst (λ (z : ClientState). Installs plan c x z) (sym (moved_client s.clients c y lt)) (installs plan c x (x.installed + 1 == length (steps_now plan c x)) refl is fit)
+      new : IsInstalled plan c x (client_at (installed plan s c x p) c)
+      new = subst (λ (z : ClientState). IsInstalled plan c x z) (sym (moved_client s.clients c y lt)) (installs plan c x (x.installed + 1 == length (steps_now plan c x)) refl is fit)
 
       within : x.installed < length x.noted
       within = omega (arith, slice_get_within (steps_now plan c x) x.installed p here, fit.1)
@@ -212,68 +213,24 @@ module _ (plan : Plan) (hosts : (c seq : ℕ) → OnHosts plan.layout (script_at
       apart : (k : ℕ) (o : Op) → Stands plan c x k o → x.installed < k → (p.0.tuple.0 == o.tuple.0) ≡ false
       apart k o st low = distinct_places (script_now plan c x) x.installed k p.0 o (distinct c x.seq) low (ap (λ (l : List Op). slice_get l x.installed) (sym (cold c)) ∙ stands.is) (ap (λ (l : List Op). slice_get l k) (sym (cold c)) ∙ st.is)
 
-  -- the client asks for its next lock, or decides
-  asked_kept : (op : Op) (by : Option ℕ) → holder plan s c op ≡ by → x.phase ≢ Installing → x.installed ≡ 0 → slice_get (cold_ops plan.layout (script_now plan c x)) (length x.noted) ≡ Some op → Holds plan (by_holder plan s c x op by)
-  asked_kept op None free before none next = granted_kept op before none next free
-  asked_kept op (Some other) free before none next = refused_kept op other before none
+  -- a client that asks has installed nothing, and has no more locks than it needs
+  asks_fit : IsAsking x → (x.installed ≡ 0) × (length x.noted ≤ length (cold_ops plan.layout (script_now plan c x)))
+  asks_fit (inl is) = let fit : FitsPhase plan c x Ready = subst (λ (p : Phase). FitsPhase plan c x p) is (holds.facts.fits c) in (fit.1, omega (arith, ap length fit.0))
+  asks_fit (inr is) = let fit : FitsPhase plan c x Locking = subst (λ (p : Phase). FitsPhase plan c x p) is (holds.facts.fits c) in (fit.1, fit.0)
 
-  next_kept : (o : Option Op) (after : State) → slice_get (cold_ops plan.layout (script_now plan c x)) (length x.noted) ≡ o → x.phase ≢ Installing → x.installed ≡ 0 → length x.noted ≤ length (cold_ops plan.layout (script_now plan c x))
-      → asks_or_decides plan s c x o ≡ Some after → Holds plan after
-  next_kept (Some op) after is before none room moves = subst (Holds plan) (same moves) (asked_kept op (holder plan s c op) refl before none is)
-    where
-      same : {a b : State} → Some a ≡ Some b → a ≡ b
-      same e = cc
-  next_kept None after is before none room moves = by (nat_lt 0 (length x.noted)) moves
-    where
-      same : {a b : State} → Some a ≡ Some b → a ≡ b
-      same e = cc
-
-      all : length x.noted ≡ length (script_now plan c x)
-      all = omega (arith, room, past_none (cold_ops plan.layout (script_now plan c x)) (length x.noted) is, ap length (cold c))
-
-      by : (b : Bool) → (if b then Some (decided plan s c x) else None) ≡ Some after → Holds plan after
-      by true e = subst (Holds plan) (same e) (decided_kept before none all)
-      by false e = cc
-
-  installing_kept : (o : Option Step) (after : State) → slice_get (steps_now plan c x) x.installed ≡ o → x.phase ≡ Installing → option_map (installed plan s c x) o ≡ Some after → Holds plan after
-  installing_kept (Some p) after here is moves = subst (Holds plan) (same moves) (installed_kept p is here)
-    where
-      same : {a b : State} → Some a ≡ Some b → a ≡ b
-      same e = cc
-  installing_kept None after here is moves = cc
-
-  client_kept : (q : Phase) (after : State) → x.phase ≡ q → client_step plan s c x q ≡ Some after → Holds plan after
-  client_kept Ready after is moves =
-      let fit : FitsPhase plan c x Ready = subst (λ (p : Phase). FitsPhase plan c x p) is (holds.facts.fits c) in
-      next_kept (slice_get (cold_ops plan.layout (script_now plan c x)) (length x.noted)) after refl (λ i. let e : Ready ≡ Installing = sym is ∙ i in cc) fit.1 (omega (arith, ap length fit.0)) moves
-  client_kept Locking after is moves =
-      let fit : FitsPhase plan c x Locking = subst (λ (p : Phase). FitsPhase plan c x p) is (holds.facts.fits c) in
-      next_kept (slice_get (cold_ops plan.layout (script_now plan c x)) (length x.noted)) after refl (λ i. let e : Locking ≡ Installing = sym is ∙ i in cc) fit.1 fit.0 moves
-  client_kept Aborting after is moves =
-      let fit : FitsPhase plan c x Aborting = subst (λ (p : Phase). FitsPhase plan c x p) is (holds.facts.fits c) in
-      subst (Holds plan) (same moves) (released_kept (λ i. let e : Aborting ≡ Installing = sym is ∙ i in cc) fit)
-    where
-      same : {a b : State} → Some a ≡ Some b → a ≡ b
-      same e = cc
-  client_kept Installing after is moves = installing_kept (slice_get (steps_now plan c x) x.installed) after refl is moves
-  client_kept Logged after is moves = cc
-  client_kept Waiting after is moves = cc
-  client_kept Finished after is moves = cc
+  kept_by_move : (after : State) → Move plan s c after → Holds plan after
+  kept_by_move after (Grants op asks next free is) = subst (Holds plan) (sym is) (granted_kept op (not_decided x asks) (asks_fit asks).0 next free)
+  kept_by_move after (Refuses op by asks next held is) = subst (Holds plan) (sym is) (refused_kept op by (not_decided x asks) (asks_fit asks).0)
+  kept_by_move after (Releases phase is) =
+      let fit : FitsPhase plan c x Aborting = subst (λ (p : Phase). FitsPhase plan c x p) phase (holds.facts.fits c) in
+      subst (Holds plan) (sym is) (released_kept (λ i. let e : Aborting ≡ Installing = sym phase ∙ i in cc) fit)
+  kept_by_move after (Decides asks next is) =
+      subst (Holds plan) (sym is) (decided_kept (not_decided x asks) (asks_fit asks).0 (omega (arith, (asks_fit asks).1, past_none (cold_ops plan.layout (script_now plan c x)) (length x.noted) next, ap length (cold c))))
+  kept_by_move after (Installs p phase at is) = subst (Holds plan) (sym is) (installed_kept p phase at)
 
 -- the step keeps what holds
 pub kept_by_step : (plan : Plan) → ((c seq : ℕ) → OnHosts plan.layout (script_at plan c seq)) → ((c seq : ℕ) → IsDistinct (script_at plan c seq)) → (s after : State) (actor : Actor) → Holds plan s → step plan s actor ≡ Some after → Holds plan after
-unfolding step
-kept_by_step plan hosts distinct s after (Client c) holds moves = by (nat_lt c (length s.clients)) refl moves
-  where
-    below : (a b : ℕ) → nat_lt a b ≡ true → a < b
-    below a b e = grind (arith, nat_tests)
-
-    by : (b : Bool) → nat_lt c (length s.clients) ≡ b → (if b then client_step plan s c (client_at s c) (client_at s c).phase else None) ≡ Some after → Holds plan after
-    by true lt e = client_kept plan hosts distinct s c (below c (length s.clients) lt) holds (client_at s c).phase after refl e
-    by false lt e = cc
-kept_by_step plan hosts distinct s after (Port c) holds moves = cc
-kept_by_step plan hosts distinct s after (Stage x) holds moves = cc
-kept_by_step plan hosts distinct s after Recover holds moves = cc
+kept_by_step plan hosts distinct s after actor holds is = let moved = move_of plan s actor after is in kept_by_move plan hosts distinct s moved.client moved.within holds after moved.move
 
 -- and so do any moves
 pub kept_by_moves : (plan : Plan) → ((c seq : ℕ) → OnHosts plan.layout (script_at plan c seq)) → ((c seq : ℕ) → IsDistinct (script_at plan c seq)) → (trace : List Actor) (s after : State) → Holds plan s → state_behind plan s trace ≡ Some after → Holds plan after

@@ -21,10 +21,11 @@ use Rattle.catalogue.specs.Sound.{IsSound, IsFit, IsFitItem}
 use Rattle.catalogue.specs.declared.kind.Kind.TheVariants.{Hot, Warm, Cold}
 use Rattle.core_model.specs.declared.phase.Phase.TheVariants.{Installing, Finished}
 use Rattle.core_model.specs.Facts.{script_at, script_of_entry, answered}
-use Rattle.core_model.specs.Laws.{IsCold, IsReached, HasLegalHistory, IsFinished, HasSerialValues}
+use Rattle.core_model.specs.Laws.{IsCold, IsReached, HasLegalHistory, IsFinished, HasSerialValues, HasItemsInOrder}
 use Rattle.core_model.specs.Run.{state_of, opening}
 use Rattle.core_model.specs.State.{ClientState, State, at_item, zero_stamp}
 use Rattle.core_model.proofs.Decided.{IsDistinct, distinct_from}
+use Rattle.core_model.proofs.InOrder.{in_order_by_moves}
 use Rattle.core_model.proofs.Kept.{Holds, kept_by_moves}
 use Rattle.core_model.proofs.Opening.{holds_at_opening}
 use Rattle.core_model.proofs.StepsOf.{OnHosts}
@@ -147,3 +148,7 @@ serial_values plan s reached finished t =
   where
     clash : Finished ≡ Installing → ⊥
     clash e = cc
+
+pub items_in_order : (plan : Plan) (s : State) → IsReached plan s → HasItemsInOrder s
+unfolding state_of opening
+items_in_order plan s reached = in_order_by_moves plan (all_on_hosts plan reached.cold) (all_distinct plan reached.sound) reached.trace (opening plan) s (holds_at_opening plan) (record { ascending = λ c. tt; past = λ c. tt }) reached.run

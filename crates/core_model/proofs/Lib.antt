@@ -10,3 +10,6 @@ pub mod Moves
 pub mod Kept
 pub mod Opening
 pub mod Legal
+pub mod MoveKinds
+pub mod Refusals
+pub mod InOrder

@@ -1,20 +1,21 @@
 -- Laws over all runs of sessions of transactions on hosts.
-use Rattle.std.specs.Prelude.{◌≡◌, ℕ, List, Some}
+use Rattle.std.specs.Prelude.{◌<◌, ◌⊎◌, [], ◌∷◌, ⊤, ◌≡◌, ℕ, List, Some}
 use Rattle.std.specs.List.{AllByRecursion}
 use Rattle.txn_model.specs.Serial.{serial_run}
 use Rattle.txn_model.specs.Tuples.{value_at}
 use Rattle.txn_model.specs.declared.op.Op.{Op}
 use Rattle.txn_model.specs.declared.op.TupleId.{TupleId}
 use Rattle.history_model.specs.History.{IsInStampOrder, AllAnswered}
+use Rattle.history_model.specs.InOrder.{seqs_of}
 use Rattle.history_model.specs.Legal.{IsLegal, scripts_of}
 use Rattle.catalogue.specs.Plan.{Plan, script_of, kind_of}
 use Rattle.catalogue.specs.Sound.{IsSound}
 use Rattle.catalogue.specs.declared.actor.Actor.{Actor}
 use Rattle.catalogue.specs.declared.kind.Kind.TheVariants.{Cold}
-use Rattle.core_model.specs.declared.phase.Phase.TheVariants.{Finished}
+use Rattle.core_model.specs.declared.phase.Phase.TheVariants.{Installing, Finished}
 use Rattle.core_model.specs.Facts.{script_at}
 use Rattle.core_model.specs.Run.{state_of}
-use Rattle.core_model.specs.State.{State, seen_at}
+use Rattle.core_model.specs.State.{ClientState, State, client_at, seen_at}
 
 -- each transaction of the session is on tuples of hosts alone
 abbrev pub IsCold : Plan → Type 0
@@ -40,3 +41,17 @@ IsFinished s = AllByRecursion (λ client. client.phase ≡ Finished) s.clients
 -- the values on the hosts are those that the serial run of the history's scripts leaves
 abbrev pub HasSerialValues : Plan → State → Type 0
 HasSerialValues plan s = (t : TupleId) → (seen_at s.store t).value ≡ value_at (serial_run (scripts_of (script_at plan) s.history) plan.tuples).after t
+
+-- each number is below those that follow
+abbrev pub IsAscending : List ℕ → Type 0
+IsAscending [] = ⊤
+IsAscending (n ∷ ns) = AllByRecursion (λ m. n < m) ns × IsAscending ns
+
+-- the item is before the client's present one, or it is that one and decided
+abbrev pub IsPast : ClientState → ℕ → Type 0
+IsPast x seq = (seq < x.seq) ⊎ ((seq ≡ x.seq) × (x.phase ≡ Installing))
+
+-- Each client's entries stand in its own order, and each of its items has at most one; no later item has one.
+pub record HasItemsInOrder (s : State) : Type 0 where
+  pub ascending : (c : ℕ) → IsAscending (seqs_of c s.history)
+  pub past : (c : ℕ) → AllByRecursion (IsPast (client_at s c)) (seqs_of c s.history)

@@ -5,8 +5,13 @@
 //! in the way of (two-phase locking, NO_WAIT). They are decided when all locks are held, with a stamp
 //! above each that they read; then each value is installed and its lock given back.
 
+ghost use Rattle.std.specs.Prelude.{◌≡◌, List, Some};
+ghost use Rattle.std.specs.List.{AllByRecursion};
 ghost use Rattle.catalogue.specs.Plan.{Plan};
-ghost use Rattle.core_model.specs.Laws.{IsReached, IsFinished, HasLegalHistory, HasSerialValues};
+ghost use Rattle.catalogue.specs.declared.actor.Actor.{Actor};
+ghost use Rattle.core_model.specs.Asking.{IsTrue};
+ghost use Rattle.core_model.specs.Laws.{IsReached, IsFinished, HasLegalHistory, HasSerialValues, HasItemsInOrder};
+ghost use Rattle.core_model.specs.Run.{state_of};
 ghost use Rattle.core_model.specs.State.{State};
 
 /// Whichever actors move, and whenever: the history is in stamp order, all its entries are answered, and
@@ -18,4 +23,18 @@ pub fn histories_are_legal()
 /// When all clients have finished, the values on the hosts are those that this serial run leaves.
 pub fn values_are_serial()
     ensures { (plan : Plan) (s : State) → IsReached plan s → IsFinished s → HasSerialValues plan s }
+{}
+
+/// At any time, each client's entries stand in its own order, each of its items has at most one, and no
+/// item behind its present one has any.
+pub fn items_are_in_order()
+    ensures { (plan : Plan) (s : State) → IsReached plan s → HasItemsInOrder s }
+{}
+
+/// Each refusal of a lock is true: behind as many moves as it says, its client was at that item and asked
+/// for a lock on that tuple, and the holder was the least other client whose lock stood in the way. This
+/// holds of each plan and each list of moves.
+pub fn refusals_are_true()
+    ensures { (plan : Plan) (trace : List Actor) (s : State) → state_of plan trace ≡ Some s
+        → AllByRecursion (IsTrue plan trace) s.refusals }
 {}

@@ -1,0 +1,5 @@
+use Rattle.core_model.proofs.Legal.{items_in_order}
+use Rattle.core_model.proofs.laws.items_are_in_order.Goals as goal
+
+pub returns : goal.returns
+returns c = items_in_order
