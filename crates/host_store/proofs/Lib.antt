@@ -1,0 +1,2 @@
+pub mod MappedRows
+pub mod StoreRows
