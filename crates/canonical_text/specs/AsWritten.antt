@@ -11,16 +11,20 @@ use Rattle.session_draft.specs.declared.draft.RowDraft.{RowDraft}
 use Rattle.session_draft.specs.declared.draft.ShapeDraft.{ShapeDraft}
 use Rattle.canonical_text.specs.SessionData.{schedule_text}
 
+-- an operation, with its needs as a list
 abbrev pub op_written : Op → WrittenOp
 op_written op = record { tuple = op.tuple; act = op.act; needs = needs_list op.needs }
 
+-- an item
 abbrev pub item_written : PlainItem → WrittenItem
 item_written (Run ops) = run (map op_written ops)
 item_written Lose = lose
 
+-- a row of a layout
 abbrev pub row_written : LayoutRow → RowDraft
 row_written row = record { tuple = row.tuple; place = row.place }
 
+-- the numbers of a shape
 abbrev pub shape_written : Shape → ShapeDraft
 shape_written shape = record { stages = shape.stages; arrays = shape.arrays; split = shape.split; hosts = shape.hosts; cells = shape.cells }
 

@@ -32,6 +32,7 @@ natural n = number (unsigned n)
 abbrev pub integer : ℤ → Data
 integer z = number (of_integer z)
 
+-- `old` or `moved`
 abbrev pub which_name : Which → List ℕ
 which_name Old = codes "old"
 which_name Moved = codes "moved"
@@ -40,6 +41,7 @@ which_name Moved = codes "moved"
 abbrev pub need_data : Need → Data
 need_data need = list (string (which_name need.which) ∷ natural need.from ∷ [])
 
+-- the list of an operation's needs
 abbrev pub needs_data : Needs → Data
 needs_data needs = list (map need_data (needs_list needs))
 
@@ -64,6 +66,7 @@ item_data Lose = string (codes "lose")
 abbrev pub client_data : List PlainItem → Data
 client_data items = list (map item_data items)
 
+-- the items of each client
 abbrev pub clients_data : List (List PlainItem) → Data
 clients_data clients = list (map client_data clients)
 
@@ -71,6 +74,7 @@ clients_data clients = list (map client_data clients)
 abbrev pub layout_row_data : LayoutRow → Data
 layout_row_data row = list (natural row.tuple.0 ∷ natural row.place.stage ∷ natural row.place.array ∷ natural row.place.cell ∷ [])
 
+-- the rows of a layout in their order
 abbrev pub layout_data : List LayoutRow → Data
 layout_data rows = list (map layout_row_data rows)
 
@@ -82,6 +86,7 @@ tuple_row_data row = list (natural row.0.0 ∷ integer row.1 ∷ [])
 abbrev pub tuples_data : Tuples → Data
 tuples_data tuples = list (map tuple_row_data (entries tuples))
 
+-- the five numbers of a shape, in the order of their names
 abbrev pub shape_data : Shape → Data
 shape_data shape = object
     (member (codes "arrays") (natural shape.arrays)

@@ -13,18 +13,22 @@ use Rattle.stage_layout.specs.declared.layout.LayoutRow.{LayoutRow}
 use Rattle.stage_layout.specs.declared.shape.Shape.{Shape}
 use Rattle.catalogue.specs.Plan.{Plan, PlainItem, Run, Lose}
 
+-- a tuple's number has 32 bits
 abbrev pub IsTypedTuple : TupleId → Type 0
 IsTypedTuple tuple = tuple.0 < 2 ^ 32
 
+-- a tuple and its first value, a signed number of 64 bits
 abbrev pub IsTypedRow : TupleId × ℤ → Type 0
 IsTypedRow row = IsTypedTuple row.0 × FitsSigned w64 row.1
 
+-- a hot tuple and the three numbers of its place
 pub record IsTypedLayoutRow (row : LayoutRow) : Type 0 where
   pub tuple : IsTypedTuple row.tuple
   pub stage : row.place.stage < 2 ^ 8
   pub array : row.place.array < 2 ^ 8
   pub cell : row.place.cell < 2 ^ 16
 
+-- the number of an operation has 8 bits
 abbrev pub IsTypedNeed : Need → Type 0
 IsTypedNeed need = need.from < 2 ^ 8
 
@@ -35,15 +39,18 @@ act_numbers (Put base) = base ∷ []
 act_numbers (Add base) = base ∷ []
 act_numbers (Choose limit above below) = limit ∷ above ∷ below ∷ []
 
+-- an operation's tuple, its act's signed numbers and its needs
 pub record IsTypedOp (op : Op) : Type 0 where
   pub tuple : IsTypedTuple op.tuple
   pub act : AllByRecursion (FitsSigned w64) (act_numbers op.act)
   pub needs : AllByRecursion IsTypedNeed (needs_list op.needs)
 
+-- each operation of a transaction
 abbrev pub IsTypedItem : PlainItem → Type 0
 IsTypedItem (Run ops) = AllByRecursion IsTypedOp ops
 IsTypedItem Lose = Unit {0}
 
+-- a shape's numbers have 8 bits, but its cells 16
 pub record IsTypedShape (shape : Shape) : Type 0 where
   pub stages : shape.stages < 2 ^ 8
   pub arrays : shape.arrays < 2 ^ 8
