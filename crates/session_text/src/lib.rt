@@ -1,7 +1,8 @@
 //! Sessions from their JSON text.
 //!
 //! A draft is read by the grammar alone; here the limits and the rules between the sections come in, and
-//! the draft becomes a session whose lists are the limited ones.
+//! the draft becomes a sound session. Each fault is searched for in the whole text before the next one is.
+//! This crate writes no text and runs nothing.
 #![tactic(auto)]
 
 mod build;
