@@ -2,3 +2,4 @@ pub mod Plan
 pub mod Items
 pub mod PlanOf
 pub mod Sound
+pub mod ActorWord

@@ -4,23 +4,24 @@ use Rattle.std.specs.Fmt.{decimal}
 use Rattle.std.specs.Option.{option_map}
 use Rattle.std.proofs.lemmas.Bool.{eqb-true}
 use Rattle.std.proofs.lemmas.Bool.Decides.{nat_tests}
+use Rattle.catalogue.specs.ActorWord.{actor_word}
 use Rattle.catalogue.specs.Plan.{Plan}
 use Rattle.catalogue.specs.Sound.{IsWithinLimits, IsActor}
 use Rattle.catalogue.specs.declared.actor.Actor.{Actor}
 use Rattle.catalogue.specs.declared.actor.Actor.TheVariants.{Client, Port, Stage, Recover}
 use Rattle.schedule.proofs.Decimals.{number_of-decimal, decimal-number_of}
-use Rattle.schedule.specs.Words.{number_of, below, actor_of, word_of}
+use Rattle.schedule.specs.Words.{number_of, below, actor_of}
 
 -- a number below the limit is read from its decimal
 numbered : (limit n : ℕ) → limit < 2 ^ 64 → n < limit → below limit (number_of (decimal n)) ≡ Some n
 numbered limit n fits less = let small : nat_lt n limit ≡ true = grind (arith, nat_tests) in rw (number_of-decimal n (omega arith)) (rw small refl)
 
 -- the actor of a word
-pub actor_of-word_of : (plan : Plan) (actor : Actor) → IsWithinLimits plan → IsActor plan actor → actor_of plan (word_of actor) ≡ Some actor
-actor_of-word_of plan (Client c) limits is = ap (option_map Client) (numbered (length plan.clients) c (omega (arith, limits.clients)) is)
-actor_of-word_of plan (Port c) limits is = ap (option_map Port) (numbered (length plan.clients) c (omega (arith, limits.clients)) is)
-actor_of-word_of plan (Stage s) limits is = ap (option_map Stage) (numbered plan.shape.stages s (omega (arith, limits.shape.stages)) is)
-actor_of-word_of plan Recover limits is = refl
+pub actor_of-actor_word : (plan : Plan) (actor : Actor) → IsWithinLimits plan → IsActor plan actor → actor_of plan (actor_word actor) ≡ Some actor
+actor_of-actor_word plan (Client c) limits is = ap (option_map Client) (numbered (length plan.clients) c (omega (arith, limits.clients)) is)
+actor_of-actor_word plan (Port c) limits is = ap (option_map Port) (numbered (length plan.clients) c (omega (arith, limits.clients)) is)
+actor_of-actor_word plan (Stage s) limits is = ap (option_map Stage) (numbered plan.shape.stages s (omega (arith, limits.shape.stages)) is)
+actor_of-actor_word plan Recover limits is = refl
 
 -- what a text that is read as a number below the limit is
 record IsNumber (limit : ℕ) (text : List ℕ) (n : ℕ) : Type 0 where
@@ -42,7 +43,7 @@ number_is limit n text fits e = go (number_of text) refl e
         ] refl h
 
 abbrev IsWord : Plan → List ℕ → Actor → Type 0
-IsWord plan word actor = (word ≡ word_of actor) × IsActor plan actor
+IsWord plan word actor = (word ≡ actor_word actor) × IsActor plan actor
 
 named : (make : ℕ → Actor) (found : Option ℕ) (actor : Actor) → option_map make found ≡ Some actor → (n : ℕ) × (found ≡ Some n) × (make n ≡ actor)
 named make None actor e = cc e
@@ -86,9 +87,9 @@ abbrev others : ℕ → List ℕ → Plan → Option Actor
 others letter text plan = cond (eqb letter 112) (option_map Port (below (length plan.clients) (number_of text))) (rest letter text plan)
 
 -- the word of an actor that a word names
-pub word_of-actor_of : (plan : Plan) (word : List ℕ) (actor : Actor) → IsWithinLimits plan → actor_of plan word ≡ Some actor → (word ≡ word_of actor) × IsActor plan actor
-word_of-actor_of plan [] actor limits e = cc e
-word_of-actor_of plan (letter ∷ text) actor limits e =
+pub actor_word-actor_of : (plan : Plan) (word : List ℕ) (actor : Actor) → IsWithinLimits plan → actor_of plan word ≡ Some actor → (word ≡ actor_word actor) × IsActor plan actor
+actor_word-actor_of plan [] actor limits e = cc e
+actor_word-actor_of plan (letter ∷ text) actor limits e =
     elim (eqb letter 99) as (λ b. eqb letter 99 ≡ b → cond b (option_map Client (below (length plan.clients) (number_of text))) (others letter text plan) ≡ Some actor → IsWord plan (letter ∷ text) actor) [
       | true ↦ λ is h. by_client plan letter text actor limits is h
       | false ↦ λ _ h.

@@ -1,6 +1,6 @@
 -- The words that name actors: a letter, and the decimal number of a client or of a stage.
 use Rattle.std.specs.Prelude.{◌≡◌, ◌↔◌, ℕ, ◌+◌, ◌-◌, ◌*◌, ◌==◌, ◌&&◌, Bool, List, [], ◌∷◌, length, nat_lt, nat_le, Option, Some, None, option_map, if◌then◌else◌}
-use Rattle.std.specs.Fmt.{decimal}
+use Rattle.catalogue.specs.ActorWord.{actor_word}
 use Rattle.catalogue.specs.Plan.{Plan}
 use Rattle.catalogue.specs.Sound.{IsWithinLimits, IsActor}
 use Rattle.catalogue.specs.declared.actor.Actor.{Actor}
@@ -52,14 +52,7 @@ abbrev pub actor_of : Plan → List ℕ → Option Actor
 actor_of plan [] = None
 actor_of plan (letter ∷ text) = actor_by plan letter text
 
--- the word of an actor
-abbrev pub word_of : Actor → List ℕ
-word_of (Client client) = client_letter ∷ decimal client
-word_of (Port client) = port_letter ∷ decimal client
-word_of (Stage stage) = stage_letter ∷ decimal stage
-word_of Recover = recover_letter ∷ []
-
 -- a word names exactly the actor of the session whose word it is
 abbrev pub NamesByWord : Type 0
 NamesByWord =
-    (plan : Plan) (word : List ℕ) (actor : Actor) → IsWithinLimits plan → (actor_of plan word ≡ Some actor) ↔ ((word ≡ word_of actor) × IsActor plan actor)
+    (plan : Plan) (word : List ℕ) (actor : Actor) → IsWithinLimits plan → (actor_of plan word ≡ Some actor) ↔ ((word ≡ actor_word actor) × IsActor plan actor)
