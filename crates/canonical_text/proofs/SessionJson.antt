@@ -26,7 +26,7 @@ use Rattle.catalogue.specs.Plan.{Plan, PlainItem, Run, Lose}
 use Rattle.catalogue.specs.Sound.{IsSound, IsActor, IsWithinLimits}
 use Rattle.catalogue.specs.declared.actor.Actor.{Actor}
 use Rattle.catalogue.specs.declared.actor.Actor.TheVariants.{Client, Port, Stage, Recover}
-use Rattle.schedule.specs.Words.{word_of}
+use Rattle.catalogue.specs.ActorWord.{actor_word}
 use Rattle.canonical_text.specs.Canonical.{canonical}
 use Rattle.canonical_text.specs.SessionData.{natural, integer, which_name, need_data, needs_data, act_data, op_data, item_data, client_data, clients_data, layout_row_data, tuple_row_data, shape_data, more_words, schedule_text, data_of}
 use Rattle.canonical_text.specs.Typed.{IsTypedTuple, IsTypedNeed, act_numbers, IsTypedOp, IsTypedItem, IsTypedLayoutRow, IsTypedRow, IsTypedShape, IsTyped}
@@ -87,7 +87,7 @@ row_json row typed =
 tuple_row_json : (row : TupleId × ℤ) → IsTypedRow row → IsJson (tuple_row_data row)
 tuple_row_json row typed = list_json (natural row.0.0 ∷ integer row.1 ∷ []) (tuple_json row.0 typed.0, (integer_json row.1 typed.1, tt))
 
-word_utf8 : (plan : Plan) (actor : Actor) → IsWithinLimits plan → IsActor plan actor → IsUtf8 (word_of actor)
+word_utf8 : (plan : Plan) (actor : Actor) → IsWithinLimits plan → IsActor plan actor → IsUtf8 (actor_word actor)
 word_utf8 plan (Client c) limits is = IsUtf8-append (99 ∷ []) (decimal c) (IsUtf8-are_ascii (99 ∷ []) refl) (IsUtf8-from_ascii _ (IsAscii-decimal c (omega (arith, limits.clients, is))))
 word_utf8 plan (Port c) limits is = IsUtf8-append (112 ∷ []) (decimal c) (IsUtf8-are_ascii (112 ∷ []) refl) (IsUtf8-from_ascii _ (IsAscii-decimal c (omega (arith, limits.clients, is))))
 word_utf8 plan (Stage s) limits is =
@@ -97,12 +97,12 @@ word_utf8 plan Recover limits is = IsUtf8-are_ascii (114 ∷ []) refl
 more_utf8 : (plan : Plan) (actors : List Actor) → IsWithinLimits plan → AllByRecursion (IsActor plan) actors → IsUtf8 (more_words actors)
 more_utf8 plan [] limits all = IsUtf8-nil
 more_utf8 plan (actor ∷ actors) limits all =
-    IsUtf8-append (codes " ") (word_of actor ++ more_words actors) (IsUtf8-are_ascii (codes " ") refl)
-    (IsUtf8-append (word_of actor) (more_words actors) (word_utf8 plan actor limits all.0) (more_utf8 plan actors limits all.1))
+    IsUtf8-append (codes " ") (actor_word actor ++ more_words actors) (IsUtf8-are_ascii (codes " ") refl)
+    (IsUtf8-append (actor_word actor) (more_words actors) (word_utf8 plan actor limits all.0) (more_utf8 plan actors limits all.1))
 
 schedule_utf8 : (plan : Plan) (actors : List Actor) → IsWithinLimits plan → AllByRecursion (IsActor plan) actors → IsUtf8 (schedule_text actors)
 schedule_utf8 plan [] limits all = IsUtf8-nil
-schedule_utf8 plan (actor ∷ actors) limits all = IsUtf8-append (word_of actor) (more_words actors) (word_utf8 plan actor limits all.0) (more_utf8 plan actors limits all.1)
+schedule_utf8 plan (actor ∷ actors) limits all = IsUtf8-append (actor_word actor) (more_words actors) (word_utf8 plan actor limits all.0) (more_utf8 plan actors limits all.1)
 
 shape_json : (shape : Shape) → IsTypedShape shape → IsJson (shape_data shape)
 shape_json shape typed =

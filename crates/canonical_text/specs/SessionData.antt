@@ -18,7 +18,7 @@ use Rattle.stage_layout.specs.declared.layout.LayoutRow.{LayoutRow}
 use Rattle.stage_layout.specs.declared.shape.Shape.{Shape}
 use Rattle.catalogue.specs.Plan.{Plan, PlainItem, Run, Lose}
 use Rattle.catalogue.specs.declared.actor.Actor.{Actor}
-use Rattle.schedule.specs.Words.{word_of}
+use Rattle.catalogue.specs.ActorWord.{actor_word}
 
 -- a list of values
 abbrev pub list : List Data → Data
@@ -98,12 +98,12 @@ shape_data shape = object
 -- the words of more actors, each behind a space
 abbrev pub more_words : List Actor → List ℕ
 more_words [] = []
-more_words (actor ∷ actors) = codes " " ++ (word_of actor ++ more_words actors)
+more_words (actor ∷ actors) = codes " " ++ (actor_word actor ++ more_words actors)
 
 -- the words of actors, with single spaces between them
 abbrev pub schedule_text : List Actor → List ℕ
 schedule_text [] = []
-schedule_text (actor ∷ actors) = word_of actor ++ more_words actors
+schedule_text (actor ∷ actors) = actor_word actor ++ more_words actors
 
 -- a session: its six sections, in the order of their names
 abbrev pub data_of : Plan → Data

@@ -4,7 +4,7 @@ ghost use Rattle.std.specs.Prelude.{◌≡◌, ◌++◌, IfOk, OnOk, string_byte
 ghost use Rattle.std.specs.FinMap.{entries};
 ghost use Rattle.std.specs.List.{AllByRecursion};
 ghost use Rattle.serde_json.specs.View.{view};
-ghost use Rattle.schedule.specs.Words.{word_of};
+ghost use Rattle.catalogue.specs.ActorWord.{actor_word};
 ghost use Rattle.canonical_text.specs.SessionData.{tuple_row_data, tuples_data, layout_row_data, layout_data, shape_data, schedule_text};
 ghost use Rattle.canonical_text.specs.Typed.{IsTypedRow, IsTypedLayoutRow, IsTypedShape};
 
@@ -70,7 +70,7 @@ pub(crate) fn layout_value(alloc: Global, layout: &Layout) -> Result<Value, Allo
 }
 
 fn push_word(text: &mut String, actor: Actor) -> Result<(), AllocError>
-    ensures { OnOk result (string_bytes text.new ≡ string_bytes text.old ++ word_of actor) }
+    ensures { OnOk result (string_bytes text.new ≡ string_bytes text.old ++ actor_word actor) }
 {
     match actor {
         Actor::Client(client) => write!(text, "c{client}")?,

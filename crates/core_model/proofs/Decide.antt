@@ -13,14 +13,14 @@ use Rattle.txn_model.specs.declared.pairs.Pair.{Pair}
 use Rattle.txn_model.specs.declared.stamp.Seen.{Seen}
 use Rattle.txn_model.specs.declared.stamp.Stamp.{Stamp}
 use Rattle.history_model.specs.Chain.{Answered, Step, steps_of, all_steps, Chain, last_value, IsLocal, IsLocalFrom, MayStandBefore, HasChains}
-use Rattle.history_model.specs.History.{HistoryEntry, History, entry_cmp}
+use Rattle.history_model.specs.History.{HistoryEntry, History, entry_cmp, with_entry}
 use Rattle.history_model.proofs.InsertionLaws.{Inserted, inserted, absent_chain, quiet_last}
 use Rattle.history_model.proofs.Insertion.{all_steps-append, local_append}
 use Rattle.catalogue.specs.Plan.{Plan}
 use Rattle.core_model.specs.declared.phase.Phase.TheVariants.{Installing}
 use Rattle.core_model.specs.State.{ClientState, Store, seen_at, script_now}
 use Rattle.core_model.specs.Locks.{cold_ops}
-use Rattle.core_model.specs.Decision.{pairs_from, greatest, next_sub, with_entry}
+use Rattle.core_model.specs.Decision.{pairs_from, greatest, next_sub}
 use Rattle.core_model.specs.StampOrder.{AtMost}
 use Rattle.core_model.specs.Facts.{Clients, Stands, NoOpenWriter, FitsPhase, Facts, steps_now, script_of_entry, answered, writes}
 use Rattle.core_model.proofs.Stamps.{AtMost-refl, AtMost-trans, AtMost-from_Below, Below-from_AtMost, Below-next_sub, AtMost-greatest, noted_at_most, entry_cmp-Below}

@@ -4,9 +4,8 @@ use Rattle.std.specs.List.{AllByRecursion}
 use Rattle.std.specs.Ordering.{ordering_reverse}
 use Rattle.std.specs.Cmp.{IsTotalOrder, nat_cmp_total}
 use Rattle.std.proofs.lemmas.Cmp.{on_total, then_total}
-use Rattle.history_model.specs.History.{HistoryEntry, History, IsInStampOrder, entry_cmp}
+use Rattle.history_model.specs.History.{HistoryEntry, History, IsInStampOrder, entry_cmp, with_entry}
 use Rattle.history_model.specs.declared.entry.Entry.{Entry}
-use Rattle.core_model.specs.Decision.{with_entry}
 use Rattle.core_model.specs.StampOrder.{Below}
 use Rattle.core_model.proofs.Stamps.{entry_cmp-Below}
 

@@ -5,12 +5,12 @@ use Rattle.std.specs.Option.{option_and_then}
 use Rattle.std.proofs.lemmas.Bool.Decides.{nat_tests}
 use Rattle.txn_model.specs.declared.stamp.Seen.{Seen}
 use Rattle.txn_model.specs.declared.stamp.Stamp.{Stamp}
-use Rattle.history_model.specs.History.{HistoryEntry, History, IsInStampOrder, entry_cmp}
+use Rattle.history_model.specs.History.{HistoryEntry, History, IsInStampOrder, entry_cmp, with_entry}
 use Rattle.history_model.specs.InOrder.{seqs_of}
 use Rattle.catalogue.specs.Plan.{Plan}
 use Rattle.catalogue.specs.declared.actor.Actor.{Actor}
 use Rattle.core_model.specs.declared.phase.Phase.TheVariants.{Ready, Aborting, Installing}
-use Rattle.core_model.specs.Decision.{with_entry, greatest, next_sub}
+use Rattle.core_model.specs.Decision.{greatest, next_sub}
 use Rattle.core_model.specs.Laws.{IsAscending, IsPast, HasItemsInOrder}
 use Rattle.core_model.specs.StampOrder.{Below}
 use Rattle.core_model.specs.State.{ClientState, State, at_item, client_at, zero_stamp}

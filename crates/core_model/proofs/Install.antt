@@ -11,12 +11,11 @@ use Rattle.txn_model.specs.declared.pairs.Pair.{Pair}
 use Rattle.txn_model.specs.declared.stamp.Seen.{Seen}
 use Rattle.txn_model.proofs.TupleOrder.{tuple_cmp_total}
 use Rattle.history_model.specs.Chain.{Step, all_steps, last_value}
-use Rattle.history_model.specs.History.{HistoryEntry, History}
+use Rattle.history_model.specs.History.{HistoryEntry, History, greater}
 use Rattle.catalogue.specs.Plan.{Plan}
 use Rattle.core_model.specs.declared.phase.Phase.TheVariants.{Installing}
 use Rattle.core_model.specs.State.{ClientState, Store, seen_at, first_seen, script_now}
 use Rattle.core_model.specs.Locks.{cold_ops}
-use Rattle.core_model.specs.Decision.{greater}
 use Rattle.core_model.specs.StampOrder.{AtMost}
 use Rattle.core_model.specs.Facts.{Clients, Stands, IsOpen, NoOpenWriter, FitsPhase, Facts, steps_now, script_of_entry, answered}
 use Rattle.core_model.proofs.Stamps.{AtMost-refl, AtMost-trans, AtMost-greater_left, AtMost-greater_right}

@@ -16,6 +16,7 @@ use Rattle.history_model.specs.Legal.{Agrees, HasReply, scripts_of}
 use Rattle.history_model.proofs.ChainLaws.{run_from_chains}
 use Rattle.stage_layout.specs.Late.{is_hot}
 use Rattle.stage_layout.specs.declared.layout.LayoutRow.{LayoutRow}
+use Rattle.catalogue.proofs.SoundLaws.{sound_script}
 use Rattle.catalogue.specs.Plan.{Plan, PlainItem, Run, Lose, items_of, script_in, script_of, kind_of}
 use Rattle.catalogue.specs.Sound.{IsSound, IsFit, IsFitItem}
 use Rattle.catalogue.specs.declared.kind.Kind.TheVariants.{Hot, Warm, Cold}
@@ -29,15 +30,6 @@ use Rattle.core_model.proofs.InOrder.{in_order_by_moves}
 use Rattle.core_model.proofs.Kept.{Holds, kept_by_moves}
 use Rattle.core_model.proofs.Opening.{holds_at_opening}
 use Rattle.core_model.proofs.StepsOf.{OnHosts}
-
--- past the end there is no list
-get_or_past : {X : Type 0} (xs : List X) (c : ℕ) (d : X) → length xs ≤ c → get_or xs c d ≡ d
-get_or_past [] c d past = refl
-get_or_past (x ∷ xs) zero d past = absurd (omega arith)
-get_or_past (x ∷ xs) (suc c) d past = get_or_past xs c d (omega arith)
-
-within_or_past : (a b : ℕ) → (a < b) ⊎ (b ≤ a)
-within_or_past a b = grind arith
 
 -- a script of this kind names no hot tuple
 on_hosts : (rows : List LayoutRow) (ops : List Op) → list_any (λ op. is_hot rows op.tuple) ops ≡ false → OnHosts rows ops
@@ -67,31 +59,6 @@ no_repeat ops e = parts (length ops == 0) (nat_lt 16 (length ops)) (length ops) 
     parts false false n None o e = refl
     parts false false n (Some k) o e = cc
 
--- a script of a sound session is fit
-fit_script : (plan : Plan) (c seq : ℕ) (ops : List Op) → IsSound plan → script_of plan c seq ≡ Some ops → IsFit plan ops
-fit_script plan c seq ops sound is = by (seq == 0) is
-  where
-    items_fit : All (IsFitItem plan) (items_of plan c)
-    items_fit k d lt = elim (within_or_past c (length plan.clients)) [
-      | inl within ↦ All-get_or (All (IsFitItem plan)) plan.clients c [] within sound.items k d lt
-      | inr past ↦ absurd (none past)
-    ]
-      where
-        none : length plan.clients ≤ c → ⊥
-        none past = omega (arith, lt, ap length (get_or_past plan.clients c [] past))
-
-    in_item : (o : Option PlainItem) → slice_get (items_of plan c) (seq - 1) ≡ o → option_and_then script_in o ≡ Some ops → IsFit plan ops
-    in_item None at e = cc
-    in_item (Some Lose) at e = cc
-    in_item (Some (Run script)) at e =
-        let same : script ≡ ops = cc in
-        let lt = slice_get_within (items_of plan c) (seq - 1) (Run script) at in
-        subst (IsFit plan) same (subst (IsFitItem plan) (get_or_from_slice_get (items_of plan c) (seq - 1) (Run script) Lose at) (items_fit (seq - 1) Lose lt))
-
-    by : (b : Bool) → option_and_then script_in (if b then None else slice_get (items_of plan c) (seq - 1)) ≡ Some ops → IsFit plan ops
-    by true e = cc
-    by false e = in_item (slice_get (items_of plan c) (seq - 1)) refl e
-
 all_on_hosts : (plan : Plan) → IsCold plan → (c seq : ℕ) → OnHosts plan.layout (script_at plan c seq)
 all_on_hosts plan cold c seq = by (script_of plan c seq) refl
   where
@@ -104,7 +71,7 @@ all_distinct plan sound c seq = by (script_of plan c seq) refl
   where
     by : (o : Option (List Op)) → script_of plan c seq ≡ o → IsDistinct (unwrap_or o [])
     by None is = tt
-    by (Some ops) is = (distinct_from [] ops (no_repeat ops (fit_script plan c seq ops sound is).script)).0
+    by (Some ops) is = (distinct_from [] ops (no_repeat ops (sound_script plan c seq ops sound is).script)).0
 
 pub holds : (plan : Plan) (s : State) → IsReached plan s → Holds plan s
 unfolding state_of

@@ -5,9 +5,9 @@ use Rattle.std.specs.List.{AllByRecursion}
 use Rattle.std.proofs.lemmas.Bool.Decides.{nat_tests}
 use Rattle.txn_model.specs.declared.stamp.Seen.{Seen}
 use Rattle.txn_model.specs.declared.stamp.Stamp.{Stamp}
-use Rattle.history_model.specs.History.{stamp_cmp, entry_cmp}
+use Rattle.history_model.specs.History.{stamp_cmp, entry_cmp, greater}
 use Rattle.history_model.specs.declared.entry.Entry.{Entry}
-use Rattle.core_model.specs.Decision.{greater, greatest, next_sub}
+use Rattle.core_model.specs.Decision.{greatest, next_sub}
 use Rattle.core_model.specs.StampOrder.{Below, AtMost}
 
 pub AtMost-refl : (a : Stamp) → AtMost a a

@@ -7,11 +7,12 @@ use Rattle.history_model.specs.Chain.{Step}
 use Rattle.catalogue.specs.Plan.{Plan, items_of}
 use Rattle.catalogue.specs.declared.actor.Actor.{Actor}
 use Rattle.catalogue.specs.declared.actor.Actor.TheVariants.{Client, Port, Stage, Recover}
+use Rattle.history_model.specs.History.{greater, with_entry}
 use Rattle.core_model.specs.declared.phase.Phase.{Phase}
 use Rattle.core_model.specs.declared.phase.Phase.TheVariants.{Ready, Locking, Aborting, Logged, Waiting, Installing, Finished}
 use Rattle.core_model.specs.State.{ClientState, State, at_item, client_at, seen_at, script_now}
 use Rattle.core_model.specs.Locks.{cold_ops, holder}
-use Rattle.core_model.specs.Decision.{pairs_from, greater, greatest, next_sub, with_entry, cold_steps}
+use Rattle.core_model.specs.Decision.{pairs_from, greatest, next_sub, cold_steps}
 
 -- one move, which changes this client
 abbrev pub moved : State → ℕ → ClientState → State

@@ -6,7 +6,8 @@ use Rattle.catalogue.specs.declared.actor.Actor.{Actor}
 use Rattle.history_model.specs.declared.entry.Entry.{Entry}
 use Rattle.txn_model.specs.declared.op.TupleId.{TupleId}
 use Rattle.report_text.specs.Report.{PlainItem, PlainEnd, Committed, Aborted, Lost}
-use Rattle.report_text.specs.Words.{stamp_text, pairs_text, item_name, kind_word, actor_word}
+use Rattle.catalogue.specs.ActorWord.{actor_word}
+use Rattle.report_text.specs.Words.{stamp_text, pairs_text, item_name, kind_word}
 
 -- a word, and how many lines of its kind follow
 unfoldable pub count_line : List ℕ → ℕ → List ℕ

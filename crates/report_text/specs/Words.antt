@@ -2,8 +2,6 @@
 use Rattle.std.specs.Prelude.{ℕ, List, ◌++◌, codes, decimal}
 use Rattle.std.specs.Fmt.{signed_decimal}
 use Rattle.std.specs.List.{flat_map}
-use Rattle.catalogue.specs.declared.actor.Actor.{Actor}
-use Rattle.catalogue.specs.declared.actor.Actor.TheVariants.{Client, Port, Stage, Recover}
 use Rattle.catalogue.specs.declared.kind.Kind.{Kind}
 use Rattle.catalogue.specs.declared.kind.Kind.TheVariants.{Hot, Warm, Cold}
 use Rattle.txn_model.specs.declared.pairs.Pair.{Pair}
@@ -29,10 +27,3 @@ abbrev pub kind_word : Kind → List ℕ
 kind_word Hot = codes "hot"
 kind_word Warm = codes "warm"
 kind_word Cold = codes "cold"
-
--- `cN`, `pN`, `sN` or `r`
-abbrev pub actor_word : Actor → List ℕ
-actor_word (Client c) = codes "c" ++ decimal c
-actor_word (Port c) = codes "p" ++ decimal c
-actor_word (Stage s) = codes "s" ++ decimal s
-actor_word Recover = codes "r"

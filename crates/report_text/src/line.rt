@@ -1,7 +1,7 @@
 //! The other lines of a report: of entries, of tuples, of the schedule, and those that count lines.
 
 ghost use Rattle.std.specs.Prelude.{◌≡◌, ◌++◌, OnOk, string_bytes, codes};
-ghost use Rattle.report_text.specs.Words.{actor_word};
+ghost use Rattle.catalogue.specs.ActorWord.{actor_word};
 ghost use Rattle.report_text.specs.Lines.{count_line, entry_line, tuple_line, schedule_line};
 
 use catalogue::Actor;

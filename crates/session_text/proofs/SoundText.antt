@@ -20,7 +20,7 @@ use Rattle.catalogue.specs.Sound.{IsWithinLimits, IsFit, IsFitItem, IsActor, IsS
 use Rattle.catalogue.specs.declared.actor.Actor.{Actor}
 use Rattle.catalogue.specs.declared.actor.Actor.TheVariants.{Client, Port, Stage, Recover}
 use Rattle.schedule.specs.Words.{actor_of}
-use Rattle.schedule.proofs.WordLaws.{word_of-actor_of}
+use Rattle.schedule.proofs.WordLaws.{actor_word-actor_of}
 use Rattle.session_draft.specs.Answers.{Answers}
 use Rattle.session_draft.specs.Draft.{◌>>=◌}
 use Rattle.session_draft.specs.Written.{Written}
@@ -103,7 +103,7 @@ actors plan k (word ∷ words) list limits e =
     let one = passed (ok_or (actor_of plan word) (BadActor k)) _ list e in
     let rest = passed (actors_of plan (k + 1) words) _ list one.next in
     let same : (one.first ∷ rest.first) ≡ list = cc in
-    let is = (word_of-actor_of plan word one.first limits (named (actor_of plan word) (BadActor k) one.first one.was)).1 in
+    let is = (actor_word-actor_of plan word one.first limits (named (actor_of plan word) (BadActor k) one.first one.was)).1 in
     subst (All (IsActor plan)) same (All-cons (IsActor plan) one.first rest.first is (actors plan (k + 1) words rest.first limits rest.was))
 
 actor_kept : (plan : Plan) (schedule : List Actor) (actor : Actor) → IsActor plan actor → IsActor (with_schedule plan schedule) actor

@@ -1,6 +1,6 @@
 use Rattle.std.proofs.Common.{◌≡◌, ◌++◌, string_bytes, codes, take}
 use Rattle.std.specs.List.{flat_map}
-use Rattle.report_text.specs.Words.{actor_word}
+use Rattle.catalogue.specs.ActorWord.{actor_word}
 use Rattle.report_text.proofs.line.push_schedule.Given as goal
 
 abbrev pub invariant-loop-actor : goal.invariant-loop-actor
