@@ -5,3 +5,8 @@ pub mod SoundItems
 pub mod WholeReadsBack
 pub mod JsonParts
 pub mod SessionJson
+pub mod PlanBack
+pub mod ScriptsBack
+pub mod LimitsBack
+pub mod ScheduleBack
+pub mod SessionBack

@@ -3,6 +3,7 @@ use Rattle.std.specs.Prelude.{◌≡◌, Ok}
 use Rattle.catalogue.specs.Plan.{Plan}
 use Rattle.catalogue.specs.Sound.{IsSound}
 use Rattle.session_draft.specs.Draft.{draft_of, draft_of_bytes}
+use Rattle.session_text.specs.SessionOf.{session_of}
 use Rattle.canonical_text.specs.SessionData.{data_of}
 use Rattle.canonical_text.specs.AsWritten.{written_of}
 use Rattle.canonical_text.specs.Canonical.{canonical}
@@ -15,3 +16,7 @@ ValueReadsBack = (plan : Plan) → IsSound plan → IsTyped plan → draft_of (d
 -- so is its canonical text
 abbrev pub TextReadsBack : Type 0
 TextReadsBack = (plan : Plan) → IsSound plan → IsTyped plan → draft_of_bytes (canonical plan) ≡ Ok (written_of plan)
+
+-- and that text, read as a session, is the session itself
+abbrev pub SessionsReadBack : Type 0
+SessionsReadBack = (plan : Plan) → IsSound plan → IsTyped plan → session_of (canonical plan) ≡ Ok plan

@@ -1,6 +1,6 @@
 //! Laws of canonical texts, over the definitions alone.
 
-ghost use Rattle.canonical_text.specs.Laws.{ValueReadsBack, TextReadsBack};
+ghost use Rattle.canonical_text.specs.Laws.{ValueReadsBack, TextReadsBack, SessionsReadBack};
 
 /// The value of a sound session, read by the grammar, is the draft that the session is.
 pub fn values_read_back()
@@ -10,4 +10,9 @@ pub fn values_read_back()
 /// The canonical text of a sound session, read by the grammar, is the draft that the session is.
 pub fn texts_read_back()
     ensures { TextReadsBack }
+{}
+
+/// The canonical text of a sound session, read as a session, is that session.
+pub fn sessions_read_back()
+    ensures { SessionsReadBack }
 {}

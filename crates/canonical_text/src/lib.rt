@@ -9,7 +9,7 @@ mod laws;
 mod section;
 mod write;
 
-pub use laws::{texts_read_back, values_read_back};
+pub use laws::{sessions_read_back, texts_read_back, values_read_back};
 pub use write::write_session;
 
 #[cfg(test)]

@@ -1,6 +1,7 @@
 use super::*;
 use catalogue::{Actor, Actors, Clients, Item, Session};
 use session_draft::read_draft;
+use session_text::read_session;
 use stage_layout::{Layout, LayoutRow, Shape};
 use std::alloc::{AllocError, Global};
 use std::test::Fail;
@@ -136,6 +137,15 @@ const RICH: &str = "{\"clients\":[[\"lose\",[[\"read\",4294967295],\
     \"tries\":16,\
     \"tuples\":[[0,-9223372036854775808],[7,-1],[4294967295,9223372036854775807]]}";
 
+/// A sound session with a schedule.
+const SOUND: &str = "{\"clients\":[[\"lose\",[[\"choose\",4,7,1,-1,[]],\
+    [\"put\",2,-3,[[\"moved\",0],[\"old\",0]]]]],[]],\
+    \"layout\":[[0,0,0,0],[4,1,0,1]],\
+    \"schedule\":\"c1 p0 s1 r c0\",\
+    \"shape\":{\"arrays\":1,\"cells\":2,\"hosts\":3,\"split\":1,\"stages\":2},\
+    \"tries\":2,\
+    \"tuples\":[[0,10],[2,30],[4,50]]}";
+
 #[test]
 fn sessions_have_these_texts(rt: HostRuntime) -> Result<(), Fail> {
     let alloc = rt.alloc();
@@ -143,6 +153,18 @@ fn sessions_have_these_texts(rt: HostRuntime) -> Result<(), Fail> {
         let written = write_session(alloc, &session)?;
         assert_eq!(rt; written.as_slice(), text.as_bytes());
         assert!(rt; read_draft(alloc, written.as_slice()).is_ok());
+    }
+    Ok(())
+}
+
+#[test]
+fn a_text_gives_its_session_back(rt: HostRuntime) -> Result<(), Fail> {
+    let alloc = rt.alloc();
+    for text in [SMALL, SOUND] {
+        let session = read_session(alloc, text.as_bytes());
+        let session = session.ok().ok_or("a fault")?;
+        let written = write_session(alloc, &session)?;
+        assert_eq!(rt; written.as_slice(), text.as_bytes());
     }
     Ok(())
 }

@@ -6,6 +6,7 @@ ghost use Rattle.catalogue.specs.PlanOf.{plan_of};
 ghost use Rattle.catalogue.specs.Sound.{IsSound};
 ghost use Rattle.session_draft.specs.Draft.{draft_of_bytes};
 ghost use Rattle.session_draft.specs.Json.{json_of};
+ghost use Rattle.session_text.specs.SessionOf.{session_of};
 ghost use Rattle.canonical_text.specs.AsWritten.{written_of};
 ghost use Rattle.canonical_text.specs.Canonical.{canonical};
 ghost use Rattle.canonical_text.specs.SessionData.{data_of};
@@ -38,12 +39,14 @@ fn session_value(alloc: Global, session: &Session) -> Result<Value, AllocError>
 }
 
 /// The canonical text of the session, in time and memory linear in it. Where the session is sound, the
-/// text is read as the draft that the session is. The one error is that memory runs out.
+/// text is read as that session: `read_session` gives it back. The one error is that memory runs out.
 pub fn write_session(alloc: Global, session: &Session) -> Result<Vec<u8>, NoMemory>
     ensures text { IfOk result (λ text. text.items ≡ canonical (plan_of session.now)) }
     ensures json { IfOk result (λ text. json_of text.items ≡ Some (data_of (plan_of session.now))) }
     ensures draft { IfOk result (λ text. IsSound (plan_of session.now)
         → draft_of_bytes text.items ≡ Ok (written_of (plan_of session.now))) }
+    ensures session { IfOk result (λ text. IsSound (plan_of session.now)
+        → session_of text.items ≡ Ok (plan_of session.now)) }
     ensures typed { IfOk result (λ _. IsTyped (plan_of session.now)) }
 {
     Ok(session_value(alloc, session)?.to_vec(alloc)?)

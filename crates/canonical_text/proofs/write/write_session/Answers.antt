@@ -2,6 +2,7 @@ use Rattle.std.proofs.Common.{ap, ◌∙◌}
 use Rattle.serde_json.specs.Written.{compact_text, has_float}
 use Rattle.catalogue.specs.PlanOf.{plan_of}
 use Rattle.canonical_text.specs.Canonical.{canonical}
+use Rattle.canonical_text.proofs.SessionBack.{session_back}
 use Rattle.canonical_text.proofs.Shallow.{session_floats}
 use Rattle.canonical_text.proofs.WholeReadsBack.{bytes_read, draft_read}
 use Rattle.canonical_text.proofs.write.write_session.Goals as goal
@@ -21,3 +22,6 @@ returns-clause-draft c sound =
     draft_read (plan_of c.args.session.now) c.in_ok-to_vec.field-0.items
     (bytes_read (plan_of c.args.session.now) c.in_ok-to_vec.field-0.items _ c.in_ok-session_value.ensures.data c.in_ok-to_vec.ensures.utf8 c.in_ok-to_vec.ensures.reads_back)
     sound c.in_ok-session_value.ensures.typed
+
+pub returns-clause-session : goal.returns-clause-session
+returns-clause-session c sound = session_back (plan_of c.args.session.now) c.in_ok-to_vec.field-0.items sound (returns-clause-draft c sound)
