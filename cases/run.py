@@ -6,7 +6,8 @@ usage: cases/run.py PROGRAM [CASE ..]
 A case is a folder with any of these files; what is absent is empty, and the status is then 0.
   args          the words of the command line, one a line
   stdin         standard input, or stdin.py, whose standard output is taken as that
-  stdout        what the program must write to standard output, every byte
+  stdout        what the program must write to standard output, every byte, or stdout.py, which is given standard
+                input and writes that
   stderr        what it must write to standard error, every byte
   status        the exit status
   seconds       how long it may take (else 60)
@@ -30,6 +31,13 @@ def stdin_of(case):
     return content(case / "stdin")
 
 
+def stdout_of(case, stdin):
+    maker = case / "stdout.py"
+    if maker.is_file():
+        return subprocess.run([sys.executable, str(maker)], input=stdin, stdout=subprocess.PIPE, check=True).stdout
+    return content(case / "stdout")
+
+
 def first_difference(got, wanted):
     at = next((i for i, (a, b) in enumerate(zip(got, wanted)) if a != b), min(len(got), len(wanted)))
     return f"differs first at byte {at}: got {got[at:at + 60]!r}, wanted {wanted[at:at + 60]!r}"
@@ -38,14 +46,17 @@ def first_difference(got, wanted):
 def faults_of(case, program, folder):
     words = content(case / "args").decode().splitlines()
     limit = float(content(case / "seconds").decode() or 60)
+    stdin = stdin_of(case)
     try:
-        ran = subprocess.run([program, *words], input=stdin_of(case), capture_output=True, cwd=folder, timeout=limit)
+        ran = subprocess.run([program, *words], input=stdin, capture_output=True, cwd=folder, timeout=limit)
     except subprocess.TimeoutExpired:
         return [f"had not ended after {limit:g} seconds"]
     status = int(content(case / "status").decode() or 0)
     faults = [] if ran.returncode == status else [f"ended with status {ran.returncode}, and not {status}"]
-    for name, got in (("stdout", ran.stdout), ("stderr", ran.stderr)):
-        wanted = content(case / name)
+    for name, got, wanted in (
+        ("stdout", ran.stdout, stdout_of(case, stdin)),
+        ("stderr", ran.stderr, content(case / "stderr")),
+    ):
         if got != wanted:
             faults.append(f"{name} {first_difference(got, wanted)}")
     return faults

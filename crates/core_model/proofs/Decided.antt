@@ -1,0 +1,94 @@
+-- The reply of a script whose operations find given values.
+use Rattle.std.proofs.Common.{◌≡◌, ℕ, suc, ℤ, Bool, true, false, ◌||◌, ◌==◌, List, [], ◌∷◌, ◌++◌, length, Option, Some, None, MatchBool, if◌then◌else◌, refl, sym, ap, subst, ◌∙◌, arith}
+use Rattle.std.specs.List.{list_any, AllByRecursion}
+use Rattle.std.proofs.lemmas.Bool.Decides.{nat_tests}
+use Rattle.std.proofs.lemmas.List.Folds.{list_any-append}
+use Rattle.txn_model.specs.ScriptCheck.{names, first_repeat}
+use Rattle.txn_model.specs.declared.op.Op.{Op}
+use Rattle.txn_model.specs.declared.op.TupleId.{TupleId}
+use Rattle.txn_model.specs.declared.pairs.Pair.{Pair}
+use Rattle.txn_model.specs.Serial.{pair_of}
+use Rattle.history_model.specs.Chain.{Step, steps_of, Chain, IsLocalFrom, IsAbsent}
+use Rattle.history_model.proofs.InsertionLaws.{absent_chain}
+use Rattle.core_model.specs.Decision.{pairs_from}
+
+pub length-pairs_from : (done : List Pair) (ops : List Op) (values : List ℤ) → length values ≡ length ops → length (pairs_from done ops values) ≡ length ops
+length-pairs_from done [] values h = refl
+length-pairs_from done (op ∷ ops) [] h = absurd (omega arith)
+length-pairs_from done (op ∷ ops) (v ∷ values) h = ap suc (length-pairs_from (done ++ pair_of op done v ∷ []) ops values (omega arith))
+
+pub local-pairs_from : (done : List Pair) (ops : List Op) (values : List ℤ) → length values ≡ length ops → IsLocalFrom done ops (pairs_from done ops values)
+local-pairs_from done [] values h = tt
+local-pairs_from done (op ∷ ops) [] h = absurd (omega arith)
+local-pairs_from done (op ∷ ops) (v ∷ values) h = (refl, local-pairs_from (done ++ pair_of op done v ∷ []) ops values (omega arith))
+
+-- no operation names the tuple of another one
+abbrev pub IsDistinct : List Op → Type 0
+IsDistinct [] = Unit {0}
+IsDistinct (op ∷ ops) = (names ops op.tuple ≡ false) × IsDistinct ops
+
+-- the steps of a script that doesn't name the tuple don't
+pub absent-steps_of : (t : TupleId) (ops : List Op) (reply : List Pair) → names ops t ≡ false → IsAbsent t (steps_of ops reply)
+absent-steps_of t [] reply h = tt
+absent-steps_of t (op ∷ ops) [] h = tt
+absent-steps_of t (op ∷ ops) (p ∷ reply) h = let parts = both (op.tuple.0 == t.0) (names ops t) h in (parts.0, absent-steps_of t ops reply parts.1)
+  where
+    both : (a b : Bool) → (a || b) ≡ false → (a ≡ false) × (b ≡ false)
+    both true b e = cc
+    both false b e = (refl, e)
+
+-- each operation on the tuple finds this value
+abbrev pub AllFind : TupleId → ℤ → List Op → List ℤ → Type 0
+AllFind t w [] values = Unit {0}
+AllFind t w (op ∷ ops) [] = Unit {0}
+AllFind t w (op ∷ ops) (v ∷ values) = ((op.tuple.0 == t.0) ≡ true → v ≡ w) × AllFind t w ops values
+
+pub same_names : (ops : List Op) (a b : TupleId) → (a.0 == b.0) ≡ true → names ops a ≡ false → names ops b ≡ false
+same_names ops a b e h = let n : a.0 ≡ b.0 = grind (arith, nat_tests) in subst (λ (k : ℕ). list_any (λ op. op.tuple.0 == k) ops ≡ false) n h
+
+-- the decided script goes on from the value at the tuple
+pub chain-pairs_from : (t : TupleId) (w : ℤ) (done : List Pair) (ops : List Op) (values : List ℤ) → IsDistinct ops → AllFind t w ops values → Chain t w (steps_of ops (pairs_from done ops values))
+chain-pairs_from t w done [] values distinct find = tt
+chain-pairs_from t w done (op ∷ ops) [] distinct find = tt
+chain-pairs_from t w done (op ∷ ops) (v ∷ values) distinct find =
+    let p = pair_of op done v in
+    let rest = pairs_from (done ++ p ∷ []) ops values in
+    go (op.tuple.0 == t.0) p (steps_of ops rest)
+    (λ e. (find.0 e, (absent_chain t p.now (steps_of ops rest) (absent-steps_of t ops rest (same_names ops op.tuple t e distinct.0))).0))
+    (chain-pairs_from t w (done ++ p ∷ []) ops values distinct.1 find.1)
+  where
+    go : (b : Bool) (p : Pair) (steps : List Step) → (b ≡ true → (p.was ≡ w) × Chain t p.now steps) → Chain t w steps → MatchBool b ((p.was ≡ w) × Chain t p.now steps) (Chain t w steps)
+    go true p steps named other = named refl
+    go false p steps named other = other
+
+skip_if : {X : Type 0} (b : Bool) (x : X) (r : Option X) → (if b then Some x else r) ≡ None → (b ≡ false) × (r ≡ None)
+skip_if true x r h = cc
+skip_if false x r h = (refl, h)
+
+or_false : (a b : Bool) → (a || b) ≡ false → (a ≡ false) × (b ≡ false)
+or_false true b e = cc
+or_false false b e = (refl, e)
+
+names-last : (xs : List Op) (o : Op) (t : TupleId) → names (xs ++ o ∷ []) t ≡ false → (names xs t ≡ false) × ((o.tuple.0 == t.0) ≡ false)
+names-last xs o t e =
+    let parts = or_false (names xs t) (names (o ∷ []) t) (sym (list_any-append (λ op. op.tuple.0 == t.0) xs (o ∷ [])) ∙ e) in
+    (parts.0, (or_false (o.tuple.0 == t.0) false parts.1).0)
+
+turned : (a b : ℕ) → (a == b) ≡ false → (b == a) ≡ false
+turned a b e = grind (arith, nat_tests)
+
+others_differ : (earlier : List Op) (o : Op) (ys : List Op) → AllByRecursion (λ y. names (earlier ++ o ∷ []) y.tuple ≡ false) ys → names ys o.tuple ≡ false
+others_differ earlier o [] all = refl
+others_differ earlier o (y ∷ ys) all = ap (λ (b : Bool). b || names ys o.tuple) (turned o.tuple.0 y.tuple.0 (names-last earlier o y.tuple all.0).1) ∙ others_differ earlier o ys all.1
+
+front_differs : (earlier : List Op) (o : Op) (ys : List Op) → AllByRecursion (λ y. names (earlier ++ o ∷ []) y.tuple ≡ false) ys → AllByRecursion (λ y. names earlier y.tuple ≡ false) ys
+front_differs earlier o [] all = tt
+front_differs earlier o (y ∷ ys) all = ((names-last earlier o y.tuple all.0).0, front_differs earlier o ys all.1)
+
+-- behind operations that it doesn't repeat, a script with no repeat has distinct tuples that those don't name
+pub distinct_from : (earlier ops : List Op) → first_repeat earlier ops ≡ None → IsDistinct ops × AllByRecursion (λ op. names earlier op.tuple ≡ false) ops
+distinct_from earlier [] h = (tt, tt)
+distinct_from earlier (op ∷ ops) h =
+    let first = skip_if (names earlier op.tuple) (length earlier) (first_repeat (earlier ++ op ∷ []) ops) h in
+    let rest = distinct_from (earlier ++ op ∷ []) ops first.1 in
+    ((others_differ earlier op ops rest.1, rest.0), (first.0, front_differs earlier op ops rest.1))

@@ -1,0 +1,247 @@
+-- A lock that is granted.
+use Rattle.std.proofs.Common.{◌≡◌, ◌≢◌, ◌⊎◌, ℕ, zero, suc, ◌<◌, ◌≤◌, ◌==◌, ◌&&◌, ◌||◌, Bool, true, false, not, List, [], ◌∷◌, ◌++◌, length, slice_get, unwrap_or, Some, inl, inr, refl, sym, ap, subst, ◌∙◌, arith, length-append, true≢false}
+use Rattle.std.specs.List.{AllByRecursion}
+use Rattle.std.proofs.lemmas.Option.{slice_get_within}
+use Rattle.std.proofs.lemmas.Bool.{cases_lt}
+use Rattle.std.proofs.lemmas.Bool.Decides.{nat_tests}
+use Rattle.txn_model.specs.ScriptCheck.{names, is_read}
+use Rattle.txn_model.specs.declared.op.Op.{Op}
+use Rattle.txn_model.specs.declared.op.TupleId.{TupleId}
+use Rattle.txn_model.specs.declared.stamp.Seen.{Seen}
+use Rattle.history_model.specs.History.{HistoryEntry, History}
+use Rattle.catalogue.specs.Plan.{Plan}
+use Rattle.core_model.specs.declared.phase.Phase.TheVariants.{Locking, Installing}
+use Rattle.core_model.specs.State.{ClientState, Store, seen_at, script_now}
+use Rattle.core_model.specs.Locks.{cold_ops, clashes}
+use Rattle.core_model.specs.StampOrder.{AtMost}
+use Rattle.core_model.specs.Facts.{Clients, Stands, IsOpen, FitsPhase, Facts, steps_now, script_of_entry, writes}
+use Rattle.core_model.proofs.Decided.{IsDistinct, same_names}
+use Rattle.core_model.proofs.Fewer.{OthersStay, same_or_not, each_entry, open_stays}
+use Rattle.catalogue.specs.Plan.{script_of}
+
+-- a test isn't both
+pub differ : {b : Bool} → b ≡ true → b ≡ false → ⊥
+differ e f = true≢false (sym e ∙ f)
+
+-- what stands at a place of a list with one more item
+pub last_or_before : {X : Type 0} (xs : List X) (y : X) (k : ℕ) (x : X) → slice_get (xs ++ y ∷ []) k ≡ Some x → (slice_get xs k ≡ Some x) ⊎ ((k ≡ length xs) × (x ≡ y))
+last_or_before [] y zero x e = inr (refl, cc)
+last_or_before [] y (suc k) x e = cc
+last_or_before (z ∷ xs) y zero x e = inl e
+last_or_before (z ∷ xs) y (suc k) x e = elim (last_or_before xs y k x e) [ inl is ↦ inl is | inr is ↦ inr (ap suc is.0, is.1) ]
+
+-- locks that don't clash, on one tuple, are both shared
+pub both_read : (op other : Op) → clashes op other ≡ false → (op.tuple.0 == other.tuple.0) ≡ true → (is_read op.act ≡ true) × (is_read other.act ≡ true)
+both_read op other free same = go (op.tuple.0 == other.tuple.0) (is_read op.act) (is_read other.act) free same
+  where
+    go : (s a b : Bool) → (s && not (a && b)) ≡ false → s ≡ true → (a ≡ true) × (b ≡ true)
+    go true true true e h = (refl, refl)
+    go true true false e h = cc
+    go true false b e h = cc
+    go false a b e h = cc
+
+pub turned_test : (a b : ℕ) → (a == b) ≡ true → (b == a) ≡ true
+turned_test a b e = grind (arith, nat_tests)
+
+pub joined_tests : (a b d : ℕ) → (a == b) ≡ true → (d == b) ≡ true → (a == d) ≡ true
+joined_tests a b d e f = grind (arith, nat_tests)
+
+-- a script that changes a tuple names it
+pub names-from_writes : (ops : List Op) (t : TupleId) → writes ops t ≡ true → names ops t ≡ true
+names-from_writes [] t w = w
+names-from_writes (o ∷ ops) t w = go (o.tuple.0 == t.0) (not (is_read o.act)) (writes ops t) (names ops t) w (names-from_writes ops t)
+  where
+    go : (s r w n : Bool) → (s && r || w) ≡ true → (w ≡ true → n ≡ true) → (s || n) ≡ true
+    go true r w n e f = refl
+    go false r w n e f = f e
+
+-- an operation's script names its tuple
+pub named_by : (ops : List Op) (t : TupleId) (k : ℕ) (op : Op) → slice_get ops k ≡ Some op → (op.tuple.0 == t.0) ≡ true → names ops t ≡ true
+named_by [] t k op at on = cc
+named_by (o ∷ ops) t zero op at on = let same : o ≡ op = cc in ap (λ (b : Bool). b || names ops t) (ap (λ (x : Op). x.tuple.0 == t.0) same ∙ on)
+named_by (o ∷ ops) t (suc k) op at on = or_right (o.tuple.0 == t.0) (names ops t) (named_by ops t k op at on)
+  where
+    or_right : (a b : Bool) → b ≡ true → (a || b) ≡ true
+    or_right true b e = refl
+    or_right false b e = e
+
+no_write : (ops : List Op) (t : TupleId) → names ops t ≡ false → writes ops t ≡ false
+no_write ops t none = go (writes ops t) (names-from_writes ops t) none
+  where
+    go : (w : Bool) → (w ≡ true → names ops t ≡ true) → names ops t ≡ false → w ≡ false
+    go true f e = cc (f refl)
+    go false f e = refl
+
+-- a script with distinct tuples changes a tuple only by its one operation on it
+pub writes_by : (ops : List Op) (t : TupleId) (k : ℕ) (op : Op) → IsDistinct ops → slice_get ops k ≡ Some op → (op.tuple.0 == t.0) ≡ true → writes ops t ≡ true → is_read op.act ≡ false
+writes_by [] t k op distinct at on w = cc
+writes_by (o ∷ ops) t zero op distinct at on w =
+    let same : o ≡ op = cc in
+    let here : (o.tuple.0 == t.0) ≡ true = ap (λ (x : Op). x.tuple.0 == t.0) same ∙ on in
+    ap (λ (x : Op). is_read x.act) (sym same) ∙ go (o.tuple.0 == t.0) (is_read o.act) (writes ops t) w here (no_write ops t (same_names ops o.tuple t here distinct.0))
+  where
+    go : (s r v : Bool) → (s && not r || v) ≡ true → s ≡ true → v ≡ false → r ≡ false
+    go true false v e h n = refl
+    go true true true e h n = cc
+    go true true false e h n = cc
+    go false r v e h n = cc
+writes_by (o ∷ ops) t (suc k) op distinct at on w =
+    writes_by ops t k op distinct.1 at on (go (o.tuple.0 == t.0) (is_read o.act) (writes ops t) w (λ here. cc (same_names ops o.tuple t here distinct.0, named_by ops t k op at on)))
+  where
+    go : (s r v : Bool) → (s && not r || v) ≡ true → (s ≡ true → v ≡ true) → v ≡ true
+    go true r v e f = f refl
+    go false r v e f = e
+
+-- where the script's operation on the tuple reads, the script doesn't change it
+pub unless_read : (ops : List Op) (t : TupleId) (k : ℕ) (op : Op) → IsDistinct ops → slice_get ops k ≡ Some op → (op.tuple.0 == t.0) ≡ true → is_read op.act ≡ true → writes ops t ≡ false
+unless_read ops t k op distinct at on read = go (writes ops t) (writes_by ops t k op distinct at on)
+  where
+    go : (w : Bool) → (w ≡ true → is_read op.act ≡ false) → w ≡ false
+    go true f = cc (f refl)
+    go false f = refl
+
+-- an operation of a plan's script on hosts is one of the script
+abbrev pub AllCold : Plan → Clients → Type 0
+AllCold plan at = (d : ℕ) → cold_ops plan.layout (script_now plan d (at d)) ≡ script_now plan d (at d)
+
+module _ (plan : Plan) (at new : Clients) (store : Store) (h : History) (c : ℕ) (op : Op) (others : OthersStay c at new)
+    (mine : new c ≡ record (at c) { phase = Locking; noted = (at c).noted ++ seen_at store op.tuple ∷ [] })
+    (before : (at c).phase ≢ Installing) (none : (at c).installed ≡ 0) (asked : slice_get (cold_ops plan.layout (script_now plan c (at c))) (length (at c).noted) ≡ Some op)
+    (free : (d j : ℕ) (other : Op) → d ≢ c → Stands plan d (at d) j other → clashes op other ≡ false)
+    (cold : AllCold plan at) (distinct : (d : ℕ) → IsDistinct (script_now plan d (at d))) (facts : Facts plan at store h) where
+  abbrev next : ClientState
+  next = record (at c) { phase = Locking; noted = (at c).noted ++ seen_at store op.tuple ∷ [] }
+
+  -- a lock of the client is an old one or the new one
+  lock_of_mine : (k : ℕ) (o : Op) → Stands plan c next k o → Stands plan c (at c) k o ⊎ ((k ≡ length (at c).noted) × (o ≡ op))
+  lock_of_mine k o st = elim (cases_lt k (length (at c).noted)) [
+    | inl lt ↦ inl (record { from = st.from; to = lt; is = st.is })
+    | inr ge ↦
+        let last : k ≡ length (at c).noted = omega (arith, st.to, length-append (at c).noted (seen_at store op.tuple ∷ [])) in
+        inr (last, let e = subst (λ (n : ℕ). slice_get (cold_ops plan.layout (script_now plan c (at c))) n ≡ Some o) last st.is in cc (e, asked))
+  ]
+
+  decided_new : (d : ℕ) → (new d).phase ≡ Installing → new d ≡ at d
+  decided_new d i = elim (same_or_not d c) [
+    | inl e ↦ absurd (not_locking (sym (ap (λ (x : ClientState). x.phase) mine) ∙ subst (λ (x : ℕ). (new x).phase ≡ Installing) e i))
+    | inr n ↦ others d n
+  ]
+    where
+      not_locking : Locking ≡ Installing → ⊥
+      not_locking e = cc
+
+  decided_old : (d : ℕ) → (at d).phase ≡ Installing → new d ≡ at d
+  decided_old d i = elim (same_or_not d c) [
+    | inl e ↦ absurd (before (subst (λ (x : ℕ). (at x).phase ≡ Installing) e i))
+    | inr n ↦ others d n
+  ]
+
+  -- a lock of any client is an old one or the new one
+  lock_of : (d k : ℕ) (o : Op) → Stands plan d (new d) k o → Stands plan d (at d) k o ⊎ ((d ≡ c) × (k ≡ length (at c).noted) × (o ≡ op))
+  lock_of d k o st = elim (same_or_not d c) [
+    | inl e ↦
+        let here = subst (λ (y : ClientState). Stands plan c y k o) mine (subst (λ (x : ℕ). Stands plan x (new x) k o) e st) in
+        elim (lock_of_mine k o here) [
+          | inl s ↦ inl (subst (λ (x : ℕ). Stands plan x (at x) k o) (sym e) s)
+          | inr n ↦ inr (e, n.0, n.1)
+        ]
+    | inr n ↦ inl (subst (λ (x : ClientState). Stands plan d x k o) (others d n) st)
+  ]
+
+  -- what was read under an old lock was read before, and under the new one it is what the store has
+  noted_of : (d k : ℕ) (s : Seen) → slice_get (new d).noted k ≡ Some s → (slice_get (at d).noted k ≡ Some s) ⊎ ((d ≡ c) × (k ≡ length (at c).noted) × (s ≡ seen_at store op.tuple))
+  noted_of d k s is = elim (same_or_not d c) [
+    | inl e ↦
+        let here = subst (λ (y : ClientState). slice_get y.noted k ≡ Some s) mine (subst (λ (x : ℕ). slice_get (new x).noted k ≡ Some s) e is) in
+        elim (last_or_before (at c).noted (seen_at store op.tuple) k s here) [
+          | inl b ↦ inl (subst (λ (x : ℕ). slice_get (at x).noted k ≡ Some s) (sym e) b)
+          | inr n ↦ inr (e, n.0, n.1)
+        ]
+    | inr n ↦ inl (subst (λ (x : ClientState). slice_get x.noted k ≡ Some s) (others d n) is)
+  ]
+
+  -- where a decided script's lock stands, it and the new one are both shared
+  open_reads : (e : HistoryEntry) → IsOpen plan at e op.tuple → (is_read op.act ≡ true) × (writes (script_of_entry plan e) op.tuple ≡ false)
+  open_reads e o = elim (same_or_not e.entry.client c) [
+    | inl same ↦ absurd (before (subst (λ (x : ℕ). (at x).phase ≡ Installing) same o.phase))
+    | inr other ↦
+        let reads = both_read op o.op (free e.entry.client o.k o.op other o.stands) (turned_test o.op.tuple.0 op.tuple.0 o.on) in
+        let script = ap (λ (n : ℕ). unwrap_or (script_of plan e.entry.client n) []) o.seq in
+        (reads.0, subst (λ (ops : List Op). writes ops op.tuple ≡ false) (sym script) (unless_read (script_now plan e.entry.client (at e.entry.client)) op.tuple o.k o.op (distinct e.entry.client) (sym (ap (λ (l : List Op). slice_get l o.k) (cold e.entry.client)) ∙ o.stands.is) o.on reads.1))
+  ]
+
+  pub kept_by_grant : Facts plan new store h
+  kept_by_grant = record {
+    fits = λ d. elim (same_or_not d c) [
+      | inl e ↦ subst (λ (x : ℕ). FitsPhase plan x (new x) (new x).phase) (sym e) (subst (λ (y : ClientState). FitsPhase plan c y y.phase) (sym mine) (room, none))
+      | inr n ↦ subst (λ (x : ClientState). FitsPhase plan d x x.phase) (sym (others d n)) (facts.fits d)
+    ];
+    apart = λ a b k j o other n sa sb e. elim (lock_of a k o sa) [
+      | inl ha ↦ elim (lock_of b j other sb) [
+        | inl hb ↦ facts.apart a b k j o other n ha hb e
+        | inr nb ↦ rw_read (sym (both_read op o (free a k o (λ s. n (s ∙ sym nb.0)) ha) (turned_test o.tuple.0 op.tuple.0 (subst (λ (x : Op). (o.tuple.0 == x.tuple.0) ≡ true) nb.2 e))).1)
+      ]
+      | inr na ↦ elim (lock_of b j other sb) [
+        | inl hb ↦ ap (λ (x : Op). is_read x.act) na.2 ∙ (both_read op other (free b j other (λ s. n (na.0 ∙ sym s)) hb) (subst (λ (x : Op). (x.tuple.0 == other.tuple.0) ≡ true) na.2 e)).0
+        | inr nb ↦ absurd (n (na.0 ∙ sym nb.0))
+      ]
+    ];
+    value = λ d k o s st is. elim (lock_of d k o st) [
+      | inl hs ↦ elim (noted_of d k s is) [
+        | inl hn ↦ facts.value d k o s hs hn
+        | inr nn ↦ absurd (past hs.to nn.0 nn.1)
+      ]
+      | inr ns ↦ elim (noted_of d k s is) [
+        | inl hn ↦ absurd (past (slice_get_within (at d).noted k s hn) ns.0 ns.1)
+        | inr nn ↦ ap (λ (x : Seen). x.value) nn.2 ∙ ap (λ (x : Op). (seen_at store x.tuple).value) (sym ns.2)
+      ]
+    ];
+    writers = λ d k o s st n is. elim (lock_of d k o st) [
+      | inl hs ↦ elim (noted_of d k s is) [
+        | inl hn ↦ facts.writers d k o s hs (λ i. n (ap (λ (x : ClientState). x.phase) (decided_old d i) ∙ i)) hn
+        | inr nn ↦ absurd (past hs.to nn.0 nn.1)
+      ]
+      | inr ns ↦ elim (noted_of d k s is) [
+        | inl hn ↦ absurd (past (slice_get_within (at d).noted k s hn) ns.0 ns.1)
+        | inr nn ↦ subst (λ (x : Op). AllByRecursion (λ e. writes (script_of_entry plan e) x.tuple ≡ true → AtMost e.entry.stamp s.stamp) h) (sym ns.2)
+            (each_entry h (λ e f w. subst (λ (x : Seen). AtMost e.entry.stamp x.stamp) (sym nn.2) (elim (f (names-from_writes (script_of_entry plan e) op.tuple w)) [
+              | inl o ↦ absurd (differ w (open_reads e o).1)
+              | inr le ↦ le
+            ])) (facts.settled op.tuple))
+      ]
+    ];
+    namers = λ d k o s st n x is. elim (lock_of d k o st) [
+      | inl hs ↦ elim (noted_of d k s is) [
+        | inl hn ↦ facts.namers d k o s hs (λ i. n (ap (λ (y : ClientState). y.phase) (decided_old d i) ∙ i)) x hn
+        | inr nn ↦ absurd (past hs.to nn.0 nn.1)
+      ]
+      | inr ns ↦ elim (noted_of d k s is) [
+        | inl hn ↦ absurd (past (slice_get_within (at d).noted k s hn) ns.0 ns.1)
+        | inr nn ↦ subst (λ (y : Op). AllByRecursion (λ e. names (script_of_entry plan e) y.tuple ≡ true → AtMost e.entry.stamp s.stamp) h) (sym ns.2)
+            (each_entry h (λ e f w. subst (λ (y : Seen). AtMost e.entry.stamp y.stamp) (sym nn.2) (elim (f w) [
+              | inl o ↦ absurd (differ (open_reads e o).0 (ap (λ (y : Op). is_read y.act) (sym ns.2) ∙ x))
+              | inr le ↦ le
+            ])) (facts.settled op.tuple))
+      ]
+    ];
+    settled = λ t. each_entry h (λ e f named. elim (f named) [ inl o ↦ inl (open_stays plan at new e t (decided_old e.entry.client o.phase) o) | inr le ↦ inr le ]) (facts.settled t);
+    own = λ d. elim (same_or_not d c) [
+      | inl e ↦ subst (λ (x : ℕ). AllByRecursion (λ f. f.entry.client ≡ x → AtMost f.entry.stamp (new x).last) h) (sym e) (subst (λ (y : ClientState). AllByRecursion (λ f. f.entry.client ≡ c → AtMost f.entry.stamp y.last) h) (sym mine) (facts.own c))
+      | inr n ↦ subst (λ (x : ClientState). AllByRecursion (λ f. f.entry.client ≡ d → AtMost f.entry.stamp x.last) h) (sym (others d n)) (facts.own d)
+    ];
+    sorted = facts.sorted;
+    chains = facts.chains;
+    unchanged = λ t quiet. facts.unchanged t (λ d k o st i on. quiet d k o (subst (λ (x : ClientState). Stands plan d x k o) (sym (decided_old d i)) st) (ap (λ (x : ClientState). x.phase) (decided_old d i) ∙ i) on);
+    changed = λ d k o p st i x is. let same = decided_new d i in facts.changed d k o p (subst (λ (y : ClientState). Stands plan d y k o) same st) (ap (λ (y : ClientState). y.phase) (sym same) ∙ i) x (subst (λ (y : ClientState). slice_get (steps_now plan d y) k ≡ Some (o, p)) same is);
+    found = λ d k o p s st i is noted. let same = decided_new d i in facts.found d k o p s (subst (λ (y : ClientState). Stands plan d y k o) same st) (ap (λ (y : ClientState). y.phase) (sym same) ∙ i) (subst (λ (y : ClientState). slice_get (steps_now plan d y) k ≡ Some (o, p)) same is) (subst (λ (y : ClientState). slice_get y.noted k ≡ Some s) same noted);
+    leaves = λ d k o p i is read. let same = decided_new d i in facts.leaves d k o p (ap (λ (y : ClientState). y.phase) (sym same) ∙ i) (subst (λ (y : ClientState). slice_get (steps_now plan d y) k ≡ Some (o, p)) same is) read;
+  }
+    where
+      room : length ((at c).noted ++ seen_at store op.tuple ∷ []) ≤ length (cold_ops plan.layout (script_now plan c (at c)))
+      room = omega (arith, slice_get_within (cold_ops plan.layout (script_now plan c (at c))) (length (at c).noted) op asked, length-append (at c).noted (seen_at store op.tuple ∷ []))
+
+      past : {d k : ℕ} → k < length (at d).noted → d ≡ c → k ≡ length (at c).noted → ⊥
+      past {d} {k} lt e is = let here : k < length (at c).noted = subst (λ (x : ℕ). k < length (at x).noted) e lt in omega arith
+
+      rw_read : {x y : Bool} → y ≡ x → x ≡ y
+      rw_read e = sym e

@@ -1,0 +1,149 @@
+-- Histories of runs are legal, and at the end the hosts have the values of the serial run.
+use Rattle.std.proofs.Common.{◌≡◌, ℕ, zero, suc, ◌-◌, ◌<◌, ◌≤◌, ◌⊎◌, ◌==◌, ◌||◌, nat_lt, Bool, true, false, List, [], ◌∷◌, map, length, get_or, slice_get, unwrap_or, Option, Some, None, inl, inr, refl, sym, ap, subst, ◌∙◌, arith, if◌then◌else◌}
+use Rattle.std.specs.List.{All, AllByRecursion, list_all, list_any}
+use Rattle.std.specs.Option.{option_and_then}
+use Rattle.std.proofs.lemmas.List.Elements.{All-get_or}
+use Rattle.std.proofs.lemmas.Option.{slice_get_within, get_or_from_slice_get}
+use Rattle.txn_model.specs.ScriptCheck.{first_repeat, first_bad_use, script_fault, first_of}
+use Rattle.txn_model.specs.Serial.{serial_run}
+use Rattle.txn_model.specs.Tuples.{value_at}
+use Rattle.txn_model.specs.declared.op.Op.{Op}
+use Rattle.txn_model.specs.declared.pairs.Pair.{Pair}
+use Rattle.txn_model.specs.declared.script.ScriptFault.{ScriptFault}
+use Rattle.txn_model.specs.declared.script.ScriptFault.TheVariants.{Empty, TooLong, TupleTwice, BadUse}
+use Rattle.history_model.specs.History.{History}
+use Rattle.history_model.specs.Legal.{Agrees, HasReply, scripts_of}
+use Rattle.history_model.proofs.ChainLaws.{run_from_chains}
+use Rattle.stage_layout.specs.Late.{is_hot}
+use Rattle.stage_layout.specs.declared.layout.LayoutRow.{LayoutRow}
+use Rattle.catalogue.specs.Plan.{Plan, PlainItem, Run, Lose, items_of, script_in, script_of, kind_of}
+use Rattle.catalogue.specs.Sound.{IsSound, IsFit, IsFitItem}
+use Rattle.catalogue.specs.declared.kind.Kind.TheVariants.{Hot, Warm, Cold}
+use Rattle.core_model.specs.declared.phase.Phase.TheVariants.{Installing, Finished}
+use Rattle.core_model.specs.Facts.{script_at, script_of_entry, answered}
+use Rattle.core_model.specs.Laws.{IsCold, IsReached, HasLegalHistory, IsFinished, HasSerialValues}
+use Rattle.core_model.specs.Run.{state_of, opening}
+use Rattle.core_model.specs.State.{ClientState, State, at_item, zero_stamp}
+use Rattle.core_model.proofs.Decided.{IsDistinct, distinct_from}
+use Rattle.core_model.proofs.Kept.{Holds, kept_by_moves}
+use Rattle.core_model.proofs.Opening.{holds_at_opening}
+use Rattle.core_model.proofs.StepsOf.{OnHosts}
+
+-- past the end there is no list
+get_or_past : {X : Type 0} (xs : List X) (c : ℕ) (d : X) → length xs ≤ c → get_or xs c d ≡ d
+get_or_past [] c d past = refl
+get_or_past (x ∷ xs) zero d past = absurd (omega arith)
+get_or_past (x ∷ xs) (suc c) d past = get_or_past xs c d (omega arith)
+
+within_or_past : (a b : ℕ) → (a < b) ⊎ (b ≤ a)
+within_or_past a b = grind arith
+
+-- a script of this kind names no hot tuple
+on_hosts : (rows : List LayoutRow) (ops : List Op) → list_any (λ op. is_hot rows op.tuple) ops ≡ false → OnHosts rows ops
+on_hosts rows [] e = tt
+on_hosts rows (op ∷ ops) e = let parts = both (is_hot rows op.tuple) (list_any (λ o. is_hot rows o.tuple) ops) e in (parts.0, on_hosts rows ops parts.1)
+  where
+    both : (a b : Bool) → (a || b) ≡ false → (a ≡ false) × (b ≡ false)
+    both true b e = cc
+    both false b e = (refl, e)
+
+cold_on_hosts : (rows : List LayoutRow) (ops : List Op) → kind_of rows ops ≡ Cold → OnHosts rows ops
+cold_on_hosts rows ops is = on_hosts rows ops (none (list_all (λ op. is_hot rows op.tuple) ops) (list_any (λ op. is_hot rows op.tuple) ops) is)
+  where
+    none : (a b : Bool) → (if a then Hot else (if b then Warm else Cold)) ≡ Cold → b ≡ false
+    none true b e = cc
+    none false true e = cc
+    none false false e = refl
+
+-- a script without a fault has distinct tuples
+no_repeat : (ops : List Op) → script_fault ops ≡ None → first_repeat [] ops ≡ None
+unfolding script_fault
+no_repeat ops e = parts (length ops == 0) (nat_lt 16 (length ops)) (length ops) (first_repeat [] ops) (first_of (first_bad_use 0 ops) BadUse None) e
+  where
+    parts : (a b : Bool) (n : ℕ) (r : Option ℕ) (o : Option ScriptFault) → (if a then Some Empty else (if b then Some (TooLong n) else first_of r TupleTwice o)) ≡ None → r ≡ None
+    parts true b n r o e = cc
+    parts false true n r o e = cc
+    parts false false n None o e = refl
+    parts false false n (Some k) o e = cc
+
+-- a script of a sound session is fit
+fit_script : (plan : Plan) (c seq : ℕ) (ops : List Op) → IsSound plan → script_of plan c seq ≡ Some ops → IsFit plan ops
+fit_script plan c seq ops sound is = by (seq == 0) is
+  where
+    items_fit : All (IsFitItem plan) (items_of plan c)
+    items_fit k d lt = elim (within_or_past c (length plan.clients)) [
+      | inl within ↦ All-get_or (All (IsFitItem plan)) plan.clients c [] within sound.items k d lt
+      | inr past ↦ absurd (none past)
+    ]
+      where
+        none : length plan.clients ≤ c → ⊥
+        none past = omega (arith, lt, ap length (get_or_past plan.clients c [] past))
+
+    in_item : (o : Option PlainItem) → slice_get (items_of plan c) (seq - 1) ≡ o → option_and_then script_in o ≡ Some ops → IsFit plan ops
+    in_item None at e = cc
+    in_item (Some Lose) at e = cc
+    in_item (Some (Run script)) at e =
+        let same : script ≡ ops = cc in
+        let lt = slice_get_within (items_of plan c) (seq - 1) (Run script) at in
+        subst (IsFit plan) same (subst (IsFitItem plan) (get_or_from_slice_get (items_of plan c) (seq - 1) (Run script) Lose at) (items_fit (seq - 1) Lose lt))
+
+    by : (b : Bool) → option_and_then script_in (if b then None else slice_get (items_of plan c) (seq - 1)) ≡ Some ops → IsFit plan ops
+    by true e = cc
+    by false e = in_item (slice_get (items_of plan c) (seq - 1)) refl e
+
+all_on_hosts : (plan : Plan) → IsCold plan → (c seq : ℕ) → OnHosts plan.layout (script_at plan c seq)
+all_on_hosts plan cold c seq = by (script_of plan c seq) refl
+  where
+    by : (o : Option (List Op)) → script_of plan c seq ≡ o → OnHosts plan.layout (unwrap_or o [])
+    by None is = tt
+    by (Some ops) is = cold_on_hosts plan.layout ops (cold c seq ops is)
+
+all_distinct : (plan : Plan) → IsSound plan → (c seq : ℕ) → IsDistinct (script_at plan c seq)
+all_distinct plan sound c seq = by (script_of plan c seq) refl
+  where
+    by : (o : Option (List Op)) → script_of plan c seq ≡ o → IsDistinct (unwrap_or o [])
+    by None is = tt
+    by (Some ops) is = (distinct_from [] ops (no_repeat ops (fit_script plan c seq ops sound is).script)).0
+
+pub holds : (plan : Plan) (s : State) → IsReached plan s → Holds plan s
+unfolding state_of
+holds plan s reached = kept_by_moves plan (all_on_hosts plan reached.cold) (all_distinct plan reached.sound) reached.trace (opening plan) s (holds_at_opening plan) reached.run
+
+-- the entries' scripts
+scripts_as : (plan : Plan) (h : History) → map (λ e. e.0) (answered plan h) ≡ scripts_of (script_at plan) h
+scripts_as plan [] = refl
+scripts_as plan (e ∷ h) = ap (λ (l : List (List Op)). script_of_entry plan e ∷ l) (scripts_as plan h)
+
+agrees_with_own : (plan : Plan) (h : History) → Agrees h (map (λ e. e.1) (answered plan h))
+agrees_with_own plan [] = tt
+agrees_with_own plan (e ∷ h) = (own e.pairs, agrees_with_own plan h)
+  where
+    own : (o : Option (List Pair)) → HasReply o (unwrap_or o [])
+    own None = tt
+    own (Some pairs) = refl
+
+pub legal_history : (plan : Plan) (s : State) → IsReached plan s → HasLegalHistory plan s
+legal_history plan s reached =
+    let h = holds plan s reached in
+    let run = run_from_chains (answered plan s.history) plan.tuples h.facts.chains in
+    record {
+      sorted = h.facts.sorted;
+      answered = h.answered;
+      legal = subst (λ (l : List (List Op)). Agrees s.history (serial_run l plan.tuples).replies) (scripts_as plan s.history) (subst (Agrees s.history) (sym run.replies) (agrees_with_own plan s.history));
+    }
+
+-- where all have finished, no decided script is left
+none_open : (plan : Plan) (clients : List ClientState) (d : ℕ) → AllByRecursion (λ client. client.phase ≡ Finished) clients → (get_or clients d (at_item 0 1 zero_stamp)).phase ≡ Finished
+none_open plan [] d all = refl
+none_open plan (x ∷ clients) zero all = all.0
+none_open plan (x ∷ clients) (suc d) all = none_open plan clients d all.1
+
+pub serial_values : (plan : Plan) (s : State) → IsReached plan s → IsFinished s → HasSerialValues plan s
+serial_values plan s reached finished t =
+    let h = holds plan s reached in
+    let run = run_from_chains (answered plan s.history) plan.tuples h.facts.chains in
+    sym (h.facts.unchanged t (λ c k op st i on. absurd (clash (sym (none_open plan s.clients c finished) ∙ i))))
+    ∙ sym (run.last t) ∙ ap (λ (l : List (List Op)). value_at (serial_run l plan.tuples).after t) (scripts_as plan s.history)
+  where
+    clash : Finished ≡ Installing → ⊥
+    clash e = cc

@@ -1,0 +1,12 @@
+pub mod Stamps
+pub mod Entries
+pub mod Decided
+pub mod Fewer
+pub mod Granted
+pub mod StepsOf
+pub mod Decide
+pub mod Install
+pub mod Moves
+pub mod Kept
+pub mod Opening
+pub mod Legal

@@ -1,0 +1,93 @@
+-- Laws on the order of stamps and entries.
+use Rattle.std.proofs.Common.{◌≡◌, ◌⊎◌, ℕ, ◌<◌, Bool, false, List, [], ◌∷◌, if◌then◌else◌, inl, inr, refl, sym, ap, ◌∙◌, subst, arith, Ordering, Less, Equal, Greater, nat_cmp, is_lt}
+use Rattle.std.specs.Ordering.{ordering_then}
+use Rattle.std.specs.List.{AllByRecursion}
+use Rattle.std.proofs.lemmas.Bool.Decides.{nat_tests}
+use Rattle.txn_model.specs.declared.stamp.Seen.{Seen}
+use Rattle.txn_model.specs.declared.stamp.Stamp.{Stamp}
+use Rattle.history_model.specs.History.{stamp_cmp, entry_cmp}
+use Rattle.history_model.specs.declared.entry.Entry.{Entry}
+use Rattle.core_model.specs.Decision.{greater, greatest, next_sub}
+use Rattle.core_model.specs.StampOrder.{Below, AtMost}
+
+pub AtMost-refl : (a : Stamp) → AtMost a a
+AtMost-refl a = inr (refl, omega arith)
+
+pub AtMost-trans : (a b c : Stamp) → AtMost a b → AtMost b c → AtMost a c
+AtMost-trans a b c (inl p) (inl q) = inl (omega arith)
+AtMost-trans a b c (inl p) (inr q) = inl (omega arith)
+AtMost-trans a b c (inr p) (inl q) = inl (omega arith)
+AtMost-trans a b c (inr p) (inr q) = inr (p.0 ∙ q.0, omega arith)
+
+pub Below-from_AtMost : (a b c : Stamp) → AtMost a b → Below b c → Below a c
+Below-from_AtMost a b c (inl p) (inl q) = inl (omega arith)
+Below-from_AtMost a b c (inl p) (inr q) = inl (omega arith)
+Below-from_AtMost a b c (inr p) (inl q) = inl (omega arith)
+Below-from_AtMost a b c (inr p) (inr q) = inr (p.0 ∙ q.0, omega arith)
+
+pub AtMost-from_Below : (a b : Stamp) → Below a b → AtMost a b
+AtMost-from_Below a b (inl p) = inl p
+AtMost-from_Below a b (inr p) = inr (p.0, omega arith)
+
+pub Below-next_sub : (a : Stamp) → Below a (next_sub a)
+Below-next_sub a = inr (refl, omega arith)
+
+-- how two stamps compare
+pub stamp_cmp_cases : (a b : Stamp) → ((stamp_cmp a b ≡ Less) × Below a b) ⊎ ((is_lt (stamp_cmp a b) ≡ false) × AtMost b a)
+stamp_cmp_cases a b = numbers (nat_cases a.number b.number)
+  where
+    nat_cases : (m n : ℕ) → ((nat_cmp m n ≡ Less) × (m < n)) ⊎ (((nat_cmp m n ≡ Equal) × (m ≡ n)) ⊎ ((nat_cmp m n ≡ Greater) × (n < m)))
+    nat_cases m n = grind (arith, nat_tests)
+
+    subs : (r : Ordering) → stamp_cmp a b ≡ r → a.number ≡ b.number → ((r ≡ Less) × (a.sub < b.sub)) ⊎ (((r ≡ Equal) × (a.sub ≡ b.sub)) ⊎ ((r ≡ Greater) × (b.sub < a.sub))) → ((stamp_cmp a b ≡ Less) × Below a b) ⊎ ((is_lt (stamp_cmp a b) ≡ false) × AtMost b a)
+    subs r e n (inl p) = inl (e ∙ p.0, inr (n, p.1))
+    subs r e n (inr (inl p)) = inr (ap is_lt (e ∙ p.0), inr (sym n, omega arith))
+    subs r e n (inr (inr p)) = inr (ap is_lt (e ∙ p.0), inr (sym n, omega arith))
+
+    numbers : ((nat_cmp a.number b.number ≡ Less) × (a.number < b.number)) ⊎ (((nat_cmp a.number b.number ≡ Equal) × (a.number ≡ b.number)) ⊎ ((nat_cmp a.number b.number ≡ Greater) × (b.number < a.number))) → ((stamp_cmp a b ≡ Less) × Below a b) ⊎ ((is_lt (stamp_cmp a b) ≡ false) × AtMost b a)
+    numbers (inl p) = inl (ap (λ (r : Ordering). ordering_then r (nat_cmp a.sub b.sub)) p.0, inl p.1)
+    numbers (inr (inl p)) = subs (nat_cmp a.sub b.sub) (ap (λ (r : Ordering). ordering_then r (nat_cmp a.sub b.sub)) p.0) p.1 (nat_cases a.sub b.sub)
+    numbers (inr (inr p)) = inr (ap (λ (r : Ordering). is_lt (ordering_then r (nat_cmp a.sub b.sub))) p.0, inl p.1)
+
+greater_cases : (a b : Stamp) → ((greater a b ≡ b) × AtMost a b) ⊎ ((greater a b ≡ a) × AtMost b a)
+greater_cases a b = elim (stamp_cmp_cases a b) [
+  | inl p ↦ inl (ap (λ (r : Ordering). if is_lt r then b else a) p.0, AtMost-from_Below a b p.1)
+  | inr p ↦ inr (ap (λ (t : Bool). if t then b else a) p.0, p.1)
+]
+
+pub AtMost-greater_left : (a b : Stamp) → AtMost a (greater a b)
+AtMost-greater_left a b = elim (greater_cases a b) [
+  | inl p ↦ subst (λ (s : Stamp). AtMost a s) (sym p.0) p.1
+  | inr p ↦ subst (λ (s : Stamp). AtMost a s) (sym p.0) (AtMost-refl a)
+]
+
+pub AtMost-greater_right : (a b : Stamp) → AtMost b (greater a b)
+AtMost-greater_right a b = elim (greater_cases a b) [
+  | inl p ↦ subst (λ (s : Stamp). AtMost b s) (sym p.0) (AtMost-refl b)
+  | inr p ↦ subst (λ (s : Stamp). AtMost b s) (sym p.0) p.1
+]
+
+-- the greatest is at least the stamp and each that was read
+pub AtMost-greatest : (noted : List Seen) (stamp : Stamp) → AtMost stamp (greatest stamp noted)
+AtMost-greatest [] stamp = AtMost-refl stamp
+AtMost-greatest (seen ∷ noted) stamp = AtMost-trans _ _ _ (AtMost-greater_left stamp seen.stamp) (AtMost-greatest noted (greater stamp seen.stamp))
+
+pub noted_at_most : (noted : List Seen) (stamp : Stamp) → AllByRecursion (λ seen. AtMost seen.stamp (greatest stamp noted)) noted
+noted_at_most [] stamp = tt
+noted_at_most (seen ∷ noted) stamp = (AtMost-trans _ _ _ (AtMost-greater_right stamp seen.stamp) (AtMost-greatest noted (greater stamp seen.stamp)), noted_at_most noted (greater stamp seen.stamp))
+
+pub nat_cmp_cases : (m n : ℕ) → ((nat_cmp m n ≡ Less) × (m < n)) ⊎ (((nat_cmp m n ≡ Equal) × (m ≡ n)) ⊎ ((nat_cmp m n ≡ Greater) × (n < m)))
+nat_cmp_cases m n = grind (arith, nat_tests)
+
+apart : (a b : Stamp) → Below a b → AtMost b a → ⊥
+apart a b (inl p) (inl q) = omega arith
+apart a b (inl p) (inr q) = omega arith
+apart a b (inr p) (inl q) = omega arith
+apart a b (inr p) (inr q) = omega arith
+
+pub stamp_cmp-Below : (a b : Stamp) → Below a b → stamp_cmp a b ≡ Less
+stamp_cmp-Below a b h = elim (stamp_cmp_cases a b) [ inl p ↦ p.0 | inr p ↦ absurd (apart a b h p.1) ]
+
+-- an entry with a lower stamp stands before
+pub entry_cmp-Below : (e f : Entry) → Below e.stamp f.stamp → entry_cmp e f ≡ Less
+entry_cmp-Below e f h = ap (λ (r : Ordering). ordering_then r (nat_cmp e.client f.client)) (stamp_cmp-Below e.stamp f.stamp h)

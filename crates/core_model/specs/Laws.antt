@@ -1,0 +1,42 @@
+-- Laws over all runs of sessions of transactions on hosts.
+use Rattle.std.specs.Prelude.{◌≡◌, ℕ, List, Some}
+use Rattle.std.specs.List.{AllByRecursion}
+use Rattle.txn_model.specs.Serial.{serial_run}
+use Rattle.txn_model.specs.Tuples.{value_at}
+use Rattle.txn_model.specs.declared.op.Op.{Op}
+use Rattle.txn_model.specs.declared.op.TupleId.{TupleId}
+use Rattle.history_model.specs.History.{IsInStampOrder, AllAnswered}
+use Rattle.history_model.specs.Legal.{IsLegal, scripts_of}
+use Rattle.catalogue.specs.Plan.{Plan, script_of, kind_of}
+use Rattle.catalogue.specs.Sound.{IsSound}
+use Rattle.catalogue.specs.declared.actor.Actor.{Actor}
+use Rattle.catalogue.specs.declared.kind.Kind.TheVariants.{Cold}
+use Rattle.core_model.specs.declared.phase.Phase.TheVariants.{Finished}
+use Rattle.core_model.specs.Facts.{script_at}
+use Rattle.core_model.specs.Run.{state_of}
+use Rattle.core_model.specs.State.{State, seen_at}
+
+-- each transaction of the session is on tuples of hosts alone
+abbrev pub IsCold : Plan → Type 0
+IsCold plan = (client seq : ℕ) (ops : List Op) → script_of plan client seq ≡ Some ops → kind_of plan.layout ops ≡ Cold
+
+-- the state is one that some moves make of the opening of a sound session of such transactions
+pub record IsReached (plan : Plan) (s : State) : Type 0 where
+  pub sound : IsSound plan
+  pub cold : IsCold plan
+  pub trace : List Actor
+  pub run : state_of plan trace ≡ Some s
+
+-- the history is in stamp order, answered and legal
+pub record HasLegalHistory (plan : Plan) (s : State) : Type 0 where
+  pub sorted : IsInStampOrder s.history
+  pub answered : AllAnswered s.history
+  pub legal : IsLegal (script_at plan) plan.tuples s.history
+
+-- no client has anything left to do
+abbrev pub IsFinished : State → Type 0
+IsFinished s = AllByRecursion (λ client. client.phase ≡ Finished) s.clients
+
+-- the values on the hosts are those that the serial run of the history's scripts leaves
+abbrev pub HasSerialValues : Plan → State → Type 0
+HasSerialValues plan s = (t : TupleId) → (seen_at s.store t).value ≡ value_at (serial_run (scripts_of (script_at plan) s.history) plan.tuples).after t

@@ -1,0 +1,14 @@
+//! The core as a machine: its states, its step, one function for each kind of move, and laws over runs.
+//!
+//! Definitions and laws alone. Every move is one event; a run is the fold of the step over a list of
+//! actors. It knows no lock table, no map and no thread: code that keeps those refines this machine.
+//! Today it moves transactions on hosts; a hot or warm one would find no move.
+#![tactic(auto)]
+
+mod laws;
+mod phase;
+mod refusal;
+
+pub use laws::{histories_are_legal, values_are_serial};
+pub use phase::Phase;
+pub use refusal::Refusal;
