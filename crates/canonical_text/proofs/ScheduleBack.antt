@@ -11,8 +11,8 @@ use Rattle.catalogue.specs.Plan.{Plan}
 use Rattle.catalogue.specs.Sound.{IsWithinLimits, IsActor, IsSound}
 use Rattle.catalogue.specs.declared.actor.Actor.{Actor}
 use Rattle.catalogue.specs.declared.actor.Actor.TheVariants.{Client, Port, Stage, Recover}
-use Rattle.schedule.specs.Words.{word_of}
-use Rattle.schedule.proofs.WordLaws.{actor_of-word_of}
+use Rattle.catalogue.specs.ActorWord.{actor_word}
+use Rattle.schedule.proofs.WordLaws.{actor_of-actor_word}
 use Rattle.session_text.specs.SessionOf.{words_of, actors_of, with_schedule}
 use Rattle.canonical_text.specs.SessionData.{more_words, schedule_text}
 
@@ -28,7 +28,7 @@ no_space_number zero h = rw (decimal_digit 0 (omega arith)) (All-cons (λ (b : �
 no_space_number (suc n) h =
     rw (decimal-digits_of (suc n) (omega arith) h) (All-map (λ (b : ℕ). (b == 32) ≡ false) (λ d. 48 + d) (digits_of 10 (suc n)) (λ k d lt. no_space_digit _))
 
-no_space_word : (plan : Plan) (actor : Actor) → IsWithinLimits plan → IsActor plan actor → HasNoSpace (word_of actor)
+no_space_word : (plan : Plan) (actor : Actor) → IsWithinLimits plan → IsActor plan actor → HasNoSpace (actor_word actor)
 no_space_word plan (Client c) limits is = All-cons (λ (b : ℕ). (b == 32) ≡ false) 99 (decimal c) refl (no_space_number c (omega (arith, limits.clients, is)))
 no_space_word plan (Port c) limits is = All-cons (λ (b : ℕ). (b == 32) ≡ false) 112 (decimal c) refl (no_space_number c (omega (arith, limits.clients, is)))
 no_space_word plan (Stage s) limits is = All-cons (λ (b : ℕ). (b == 32) ≡ false) 115 (decimal s) refl (no_space_number s (omega (arith, limits.shape.stages, is)))
@@ -39,29 +39,29 @@ append-nil [] = refl
 append-nil (x ∷ xs) = ap (λ ys. x ∷ ys) (append-nil xs)
 
 split_words : (plan : Plan) (actor : Actor) (actors : List Actor) → IsWithinLimits plan → AllByRecursion (IsActor plan) (actor ∷ actors)
-    → slice_split (λ b. b == 32) (word_of actor ++ more_words actors) ≡ map word_of (actor ∷ actors)
-split_words plan actor [] limits are = ap (slice_split (λ b. b == 32)) (append-nil (word_of actor)) ∙ slice_split_none (λ b. b == 32) (word_of actor) (no_space_word plan actor limits are.0)
+    → slice_split (λ b. b == 32) (actor_word actor ++ more_words actors) ≡ map actor_word (actor ∷ actors)
+split_words plan actor [] limits are = ap (slice_split (λ b. b == 32)) (append-nil (actor_word actor)) ∙ slice_split_none (λ b. b == 32) (actor_word actor) (no_space_word plan actor limits are.0)
 split_words plan actor (next ∷ actors) limits are =
-    slice_split_at (λ b. b == 32) (word_of actor) 32 (word_of next ++ more_words actors) (no_space_word plan actor limits are.0) refl
-    ∙ ap (λ words. word_of actor ∷ words) (split_words plan next actors limits are.1)
+    slice_split_at (λ b. b == 32) (actor_word actor) 32 (actor_word next ++ more_words actors) (no_space_word plan actor limits are.0) refl
+    ∙ ap (λ words. actor_word actor ∷ words) (split_words plan next actors limits are.1)
 
 long : (b : ℕ) (bs : List ℕ) → (length (b ∷ bs) == 0) ≡ false
 long b bs = grind (arith, nat_tests)
 
-has_bytes : (actor : Actor) (behind : List ℕ) → (length (word_of actor ++ behind) == 0) ≡ false
+has_bytes : (actor : Actor) (behind : List ℕ) → (length (actor_word actor ++ behind) == 0) ≡ false
 has_bytes (Client c) behind = long 99 (decimal c ++ behind)
 has_bytes (Port c) behind = long 112 (decimal c ++ behind)
 has_bytes (Stage s) behind = long 115 (decimal s ++ behind)
 has_bytes Recover behind = long 114 behind
 
-words_back : (plan : Plan) (actors : List Actor) → IsWithinLimits plan → AllByRecursion (IsActor plan) actors → words_of (schedule_text actors) ≡ map word_of actors
+words_back : (plan : Plan) (actors : List Actor) → IsWithinLimits plan → AllByRecursion (IsActor plan) actors → words_of (schedule_text actors) ≡ map actor_word actors
 words_back plan [] limits are = refl
 words_back plan (actor ∷ actors) limits are = rw (has_bytes actor (more_words actors)) (split_words plan actor actors limits are)
 
-named_back : (plan : Plan) (k : ℕ) (actors : List Actor) → IsWithinLimits plan → AllByRecursion (IsActor plan) actors → actors_of plan k (map word_of actors) ≡ Ok actors
+named_back : (plan : Plan) (k : ℕ) (actors : List Actor) → IsWithinLimits plan → AllByRecursion (IsActor plan) actors → actors_of plan k (map actor_word actors) ≡ Ok actors
 unfolding actors_of
 named_back plan k [] limits are = refl
-named_back plan k (actor ∷ actors) limits are = rw (actor_of-word_of plan actor limits are.0, named_back plan (k + 1) actors limits are.1) refl
+named_back plan k (actor ∷ actors) limits are = rw (actor_of-actor_word plan actor limits are.0, named_back plan (k + 1) actors limits are.1) refl
 
 actor_there : (plan : Plan) (actor : Actor) → IsActor plan actor → IsActor (with_schedule plan []) actor
 actor_there plan (Client c) is = is
