@@ -60,7 +60,7 @@ item_at_place (x ∷ xs) zero h = (x, refl)
 item_at_place (x ∷ xs) (suc k) h = item_at_place xs k (omega arith)
 
 module _ (plan : Plan) (at new : Clients) (store : Store) (h : History) (c : ℕ) (others : OthersStay c at new)
-    (undecided : (at c).phase ≢ Installing) (none : (at c).installed ≡ 0) (all_locked : length (at c).noted ≡ length (script_now plan c (at c)))
+    (undecided : (at c).phase ≢ Installing) (none : (at c).installed ≡ 0) (some : 0 < length (at c).noted) (all_locked : length (at c).noted ≡ length (script_now plan c (at c)))
     (hosts : (d : ℕ) → OnHosts plan.layout (script_now plan d (at d))) (distinct : (d : ℕ) → IsDistinct (script_now plan d (at d))) (facts : Facts plan at store h)
     (mine : new c ≡ record (at c) { phase = Installing; last = next_sub (greatest (at c).last (at c).noted); reply = pairs_from [] (script_now plan c (at c)) (map (λ s. s.value) (at c).noted) }) where
   abbrev ops : List Op
@@ -274,7 +274,7 @@ module _ (plan : Plan) (at new : Clients) (store : Store) (h : History) (c : ℕ
   kept_by_decision = record {
     fits = λ d. elim (same_or_not d c) [
       | inl e ↦ subst (λ (x : ℕ). FitsPhase plan x (new x) (new x).phase) (sym e) (subst (λ (y : ClientState). FitsPhase plan c y y.phase) (sym mine)
-          (all_locked ∙ ap length (sym (cold c)), ap length (cold_steps-all plan.layout ops reply (hosts c)) ∙ length-steps_of ops reply (length-pairs_from [] ops values as_many) ∙ sym all_locked))
+          (all_locked ∙ ap length (sym (cold c)), ap length (cold_steps-all plan.layout ops reply (hosts c)) ∙ length-steps_of ops reply (length-pairs_from [] ops values as_many) ∙ sym all_locked, omega (arith, some, none)))
       | inr n ↦ subst (λ (x : ClientState). FitsPhase plan d x x.phase) (sym (others d n)) (facts.fits d)
     ];
     apart = λ a b k j op other n sa sb e. facts.apart a b k j op other n (stood plan at new c others keeps a k op sa) (stood plan at new c others keeps b j other sb) e;

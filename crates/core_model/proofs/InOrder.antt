@@ -144,7 +144,7 @@ entry_of plan s c after (Releases phase is) = inl (record { y = _; clients = ap 
     clash : Aborting ≡ Installing → ⊥
     clash e = cc
 entry_of plan s c after (Installs p phase at is) = inl (record { y = _; clients = ap (λ (z : State). z.clients) is; history = ap (λ (z : State). z.history) is; advances = installs_on plan c (client_at s c) (length (steps_now plan c (client_at s c))) })
-entry_of plan s c after (Decides asks next is) = inr (record {
+entry_of plan s c after (Decides asks next some is) = inr (record {
   y = _;
   clients = ap (λ (z : State). z.clients) is;
   undecided = not_decided (client_at s c) asks;

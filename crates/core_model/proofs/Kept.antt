@@ -3,7 +3,6 @@ use Rattle.std.proofs.Common.{◌≡◌, ◌≢◌, ℕ, zero, suc, ◌+◌, ◌
 use Rattle.std.specs.Option.{option_and_then}
 use Rattle.std.specs.Prelude.{IsSome}
 use Rattle.std.proofs.lemmas.Bool.Decides.{nat_tests}
-use Rattle.std.proofs.lemmas.Option.{slice_get_within}
 use Rattle.txn_model.specs.ScriptCheck.{names}
 use Rattle.txn_model.specs.declared.op.Op.{Op}
 use Rattle.txn_model.specs.declared.op.TupleId.{TupleId}
@@ -32,7 +31,7 @@ use Rattle.core_model.proofs.MoveKinds.{Move, Grants, Refuses, Releases, Decides
 use Rattle.core_model.proofs.Moves.{moved_client, others_stay, free_from, whole_front, front_taken, Fewer, at_beginning, aborts}
 
 -- a place without an item is past the end
-past_none : {X : Type 0} (xs : List X) (k : ℕ) → slice_get xs k ≡ None → length xs ≤ k
+pub past_none : {X : Type 0} (xs : List X) (k : ℕ) → slice_get xs k ≡ None → length xs ≤ k
 past_none [] k is = omega arith
 past_none (x ∷ xs) zero is = cc
 past_none (x ∷ xs) (suc k) is = omega (arith, past_none xs k is)
@@ -87,9 +86,9 @@ record IsInstalled (plan : Plan) (c : ℕ) (x y : ClientState) : Type 0 where
   pub same_steps : y.phase ≡ Installing → steps_now plan c y ≡ steps_now plan c x
   pub locks_decided : (k : ℕ) (o : Op) → Stands plan c y k o → y.phase ≡ Installing
 
-goes_on : (plan : Plan) (c : ℕ) (x : ClientState) → x.phase ≡ Installing → FitsPhase plan c x Installing → IsInstalled plan c x (record x { installed = x.installed + 1 })
-goes_on plan c x is fit = record {
-  fit = subst (λ (p : Phase). FitsPhase plan c (record x { installed = x.installed + 1 }) p) (sym is) (fit.0, fit.1);
+goes_on : (plan : Plan) (c : ℕ) (x : ClientState) → (x.installed + 1 == length (steps_now plan c x)) ≡ false → x.phase ≡ Installing → FitsPhase plan c x Installing → IsInstalled plan c x (record x { installed = x.installed + 1 })
+goes_on plan c x more is fit = record {
+  fit = subst (λ (p : Phase). FitsPhase plan c (record x { installed = x.installed + 1 }) p) (sym is) (fit.0, fit.1, not_all x.installed (length (steps_now plan c x)) (length x.noted) more fit.1 fit.2);
   last = refl;
   keeps = record { lock = λ k op st. record { from = omega (arith, st.from); to = st.to; is = st.is }; noted = λ k seen op st at. at };
   later = λ k o st. omega (arith, st.from);
@@ -97,6 +96,9 @@ goes_on plan c x is fit = record {
   same_steps = λ _. refl;
   locks_decided = λ k o st. is;
 }
+  where
+    not_all : (i all n : ℕ) → (i + 1 == all) ≡ false → all ≡ n → i < n → i + 1 < n
+    not_all i all n more same lt = grind (arith, nat_tests)
 
 ends : (plan : Plan) (c : ℕ) (x : ClientState) → (x.installed + 1 == length (steps_now plan c x)) ≡ true → FitsPhase plan c x Installing → IsInstalled plan c x (next_item plan c x)
 ends plan c x all fit =
@@ -123,7 +125,7 @@ ends plan c x all fit =
 installs : (plan : Plan) (c : ℕ) (x : ClientState) (b : Bool) → (x.installed + 1 == length (steps_now plan c x)) ≡ b → x.phase ≡ Installing → FitsPhase plan c x Installing
     → IsInstalled plan c x (if b then next_item plan c x else record x { installed = x.installed + 1 })
 installs plan c x true all is fit = ends plan c x all fit
-installs plan c x false all is fit = goes_on plan c x is fit
+installs plan c x false all is fit = goes_on plan c x all is fit
 
 module _ (plan : Plan) (hosts : (c seq : ℕ) → OnHosts plan.layout (script_at plan c seq)) (distinct : (c seq : ℕ) → IsDistinct (script_at plan c seq)) (s : State) (c : ℕ) (lt : c < length s.clients) (holds : Holds plan s) where
   abbrev x : ClientState
@@ -163,10 +165,10 @@ module _ (plan : Plan) (hosts : (c seq : ℕ) → OnHosts plan.layout (script_at
   unfolding released
   released_kept before none = record { facts = fewer_kept (aborting plan c x (take (length x.noted - 1) x.noted)) before (aborts plan c x (take (length x.noted - 1) x.noted) (front_taken (length x.noted - 1) x.noted) none); answered = holds.answered }
 
-  decided_kept : x.phase ≢ Installing → x.installed ≡ 0 → length x.noted ≡ length (script_now plan c x) → Holds plan (decided plan s c x)
+  decided_kept : x.phase ≢ Installing → x.installed ≡ 0 → 0 < length x.noted → length x.noted ≡ length (script_now plan c x) → Holds plan (decided plan s c x)
   unfolding decided
-  decided_kept before none all = record {
-    facts = kept_by_decision plan (client_at s) (client_at (decided plan s c x)) s.store s.history c (others_stay s.clients c _) before none all
+  decided_kept before none held all = record {
+    facts = kept_by_decision plan (client_at s) (client_at (decided plan s c x)) s.store s.history c (others_stay s.clients c _) before none held all
         (λ d. hosts d (client_at s d).seq) (λ d. distinct d (client_at s d).seq) holds.facts (moved_client s.clients c _ lt);
     answered = all-with_entry (λ e. IsSome e.pairs) entry s.history holds.answered (some reply);
   }
@@ -198,7 +200,7 @@ module _ (plan : Plan) (hosts : (c seq : ℕ) → OnHosts plan.layout (script_at
       new = subst (λ (z : ClientState). IsInstalled plan c x z) (sym (moved_client s.clients c y lt)) (installs plan c x (x.installed + 1 == length (steps_now plan c x)) refl is fit)
 
       within : x.installed < length x.noted
-      within = omega (arith, slice_get_within (steps_now plan c x) x.installed p here, fit.1)
+      within = fit.2
 
       note : (seen : Seen) × (slice_get x.noted x.installed ≡ Some seen)
       note = item_at_place x.noted x.installed within
@@ -224,8 +226,8 @@ module _ (plan : Plan) (hosts : (c seq : ℕ) → OnHosts plan.layout (script_at
   kept_by_move after (Releases phase is) =
       let fit : FitsPhase plan c x Aborting = subst (λ (p : Phase). FitsPhase plan c x p) phase (holds.facts.fits c) in
       subst (Holds plan) (sym is) (released_kept (λ i. let e : Aborting ≡ Installing = sym phase ∙ i in cc) fit)
-  kept_by_move after (Decides asks next is) =
-      subst (Holds plan) (sym is) (decided_kept (not_decided x asks) (asks_fit asks).0 (omega (arith, (asks_fit asks).1, past_none (cold_ops plan.layout (script_now plan c x)) (length x.noted) next, ap length (cold c))))
+  kept_by_move after (Decides asks next some is) =
+      subst (Holds plan) (sym is) (decided_kept (not_decided x asks) (asks_fit asks).0 some (omega (arith, (asks_fit asks).1, past_none (cold_ops plan.layout (script_now plan c x)) (length x.noted) next, ap length (cold c))))
   kept_by_move after (Installs p phase at is) = subst (Holds plan) (sym is) (installed_kept p phase at)
 
 -- the step keeps what holds

@@ -1,9 +1,6 @@
 -- Histories of runs are legal, and at the end the hosts have the values of the serial run.
-use Rattle.std.proofs.Common.{◌≡◌, ℕ, zero, suc, ◌-◌, ◌<◌, ◌≤◌, ◌⊎◌, ◌==◌, ◌||◌, nat_lt, Bool, true, false, List, [], ◌∷◌, map, length, get_or, slice_get, unwrap_or, Option, Some, None, inl, inr, refl, sym, ap, subst, ◌∙◌, arith, if◌then◌else◌}
-use Rattle.std.specs.List.{All, AllByRecursion, list_all, list_any}
-use Rattle.std.specs.Option.{option_and_then}
-use Rattle.std.proofs.lemmas.List.Elements.{All-get_or}
-use Rattle.std.proofs.lemmas.Option.{slice_get_within, get_or_from_slice_get}
+use Rattle.std.proofs.Common.{◌≡◌, ℕ, zero, suc, ◌==◌, ◌||◌, nat_lt, Bool, true, false, List, [], ◌∷◌, map, length, get_or, unwrap_or, Option, Some, None, refl, sym, ap, subst, ◌∙◌, if◌then◌else◌}
+use Rattle.std.specs.List.{AllByRecursion, list_all, list_any}
 use Rattle.txn_model.specs.ScriptCheck.{first_repeat, first_bad_use, script_fault, first_of}
 use Rattle.txn_model.specs.Serial.{serial_run}
 use Rattle.txn_model.specs.Tuples.{value_at}
@@ -17,19 +14,20 @@ use Rattle.history_model.proofs.ChainLaws.{run_from_chains}
 use Rattle.stage_layout.specs.Late.{is_hot}
 use Rattle.stage_layout.specs.declared.layout.LayoutRow.{LayoutRow}
 use Rattle.catalogue.proofs.SoundLaws.{sound_script}
-use Rattle.catalogue.specs.Plan.{Plan, PlainItem, Run, Lose, items_of, script_in, script_of, kind_of}
-use Rattle.catalogue.specs.Sound.{IsSound, IsFit, IsFitItem}
+use Rattle.catalogue.specs.Plan.{Plan, script_of, kind_of}
+use Rattle.catalogue.specs.Sound.{IsSound}
 use Rattle.catalogue.specs.declared.kind.Kind.TheVariants.{Hot, Warm, Cold}
 use Rattle.core_model.specs.declared.phase.Phase.TheVariants.{Installing, Finished}
 use Rattle.core_model.specs.Facts.{script_at, script_of_entry, answered}
-use Rattle.core_model.specs.Laws.{IsCold, IsReached, HasLegalHistory, IsFinished, HasSerialValues, HasItemsInOrder}
+use Rattle.core_model.specs.Laws.{IsCold, IsReached, HasLegalHistory, IsFinished, HasSerialValues, HasItemsInOrder, HasNoLoss, EachCanMove}
 use Rattle.core_model.specs.Run.{state_of, opening}
-use Rattle.core_model.specs.State.{ClientState, State, at_item, zero_stamp}
+use Rattle.core_model.specs.State.{ClientState, State, at_item, zero_stamp, client_at}
 use Rattle.core_model.proofs.Decided.{IsDistinct, distinct_from}
 use Rattle.core_model.proofs.InOrder.{in_order_by_moves}
 use Rattle.core_model.proofs.Kept.{Holds, kept_by_moves}
 use Rattle.core_model.proofs.Opening.{holds_at_opening}
-use Rattle.core_model.proofs.StepsOf.{OnHosts}
+use Rattle.core_model.proofs.StepsOf.{OnHosts, cold_ops-all}
+use Rattle.core_model.proofs.Stuck.{each_can_move, present_by_moves, present_at_opening}
 
 -- a script of this kind names no hot tuple
 on_hosts : (rows : List LayoutRow) (ops : List Op) → list_any (λ op. is_hot rows op.tuple) ops ≡ false → OnHosts rows ops
@@ -119,3 +117,9 @@ serial_values plan s reached finished t =
 pub items_in_order : (plan : Plan) (s : State) → IsReached plan s → HasItemsInOrder s
 unfolding state_of opening
 items_in_order plan s reached = in_order_by_moves plan (all_on_hosts plan reached.cold) (all_distinct plan reached.sound) reached.trace (opening plan) s (holds_at_opening plan) (record { ascending = λ c. tt; past = λ c. tt }) reached.run
+
+pub none_stuck : (plan : Plan) (s : State) → IsReached plan s → HasNoLoss plan → EachCanMove plan s
+unfolding state_of
+none_stuck plan s reached none =
+    each_can_move plan s reached.sound none (holds plan s reached) (λ c. cold_ops-all plan.layout (script_at plan c (client_at s c).seq) (all_on_hosts plan reached.cold c (client_at s c).seq))
+    (present_by_moves plan reached.trace (opening plan) s (present_at_opening plan) reached.run)

@@ -13,3 +13,4 @@ pub mod Legal
 pub mod MoveKinds
 pub mod Refusals
 pub mod InOrder
+pub mod Stuck

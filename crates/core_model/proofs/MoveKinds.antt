@@ -19,13 +19,16 @@ pub data Move (plan : Plan) (s : State) (c : ℕ) (after : State) : Type 0 where
   Grants : (op : Op) → IsAsking (client_at s c) → next_op plan c (client_at s c) ≡ Some op → holder plan s c op ≡ None → after ≡ granted plan s c (client_at s c) op → Move plan s c after
   Refuses : (op : Op) (by : ℕ) → IsAsking (client_at s c) → next_op plan c (client_at s c) ≡ Some op → holder plan s c op ≡ Some by → after ≡ refused plan s c (client_at s c) op by → Move plan s c after
   Releases : (client_at s c).phase ≡ Aborting → after ≡ released plan s c (client_at s c) → Move plan s c after
-  Decides : IsAsking (client_at s c) → next_op plan c (client_at s c) ≡ None → after ≡ decided plan s c (client_at s c) → Move plan s c after
+  Decides : IsAsking (client_at s c) → next_op plan c (client_at s c) ≡ None → 0 < length (client_at s c).noted → after ≡ decided plan s c (client_at s c) → Move plan s c after
   Installs : (p : Step) → (client_at s c).phase ≡ Installing → slice_get (steps_now plan c (client_at s c)) (client_at s c).installed ≡ Some p → after ≡ installed plan s c (client_at s c) p → Move plan s c after
 
 -- such a client isn't decided
 pub not_decided : (x : ClientState) → IsAsking x → (x.phase ≡ Installing → ⊥)
 not_decided x (inl e) i = let clash : Ready ≡ Installing = sym e ∙ i in cc
 not_decided x (inr e) i = let clash : Locking ≡ Installing = sym e ∙ i in cc
+
+below : (a b : ℕ) → nat_lt a b ≡ true → a < b
+below a b t = grind (arith, nat_tests)
 
 some_same : {a b : State} → Some a ≡ Some b → b ≡ a
 some_same e = cc
@@ -36,11 +39,11 @@ asking plan s c after (Some op) next asks e = by (holder plan s c op) refl (some
     by : (h : Option ℕ) → holder plan s c op ≡ h → after ≡ by_holder plan s c (client_at s c) op h → Move plan s c after
     by None free is = Grants op asks next free is
     by (Some other) held is = Refuses op other asks next held is
-asking plan s c after None next asks e = by (nat_lt 0 (length (client_at s c).noted)) e
+asking plan s c after None next asks e = by (nat_lt 0 (length (client_at s c).noted)) refl e
   where
-    by : (b : Bool) → (if b then Some (decided plan s c (client_at s c)) else None) ≡ Some after → Move plan s c after
-    by true i = Decides asks next (some_same i)
-    by false i = cc
+    by : (b : Bool) → nat_lt 0 (length (client_at s c).noted) ≡ b → (if b then Some (decided plan s c (client_at s c)) else None) ≡ Some after → Move plan s c after
+    by true lt i = Decides asks next (below 0 (length (client_at s c).noted) lt) (some_same i)
+    by false lt i = cc
 
 move_in : (plan : Plan) (s : State) (c : ℕ) (after : State) (q : Phase) → (client_at s c).phase ≡ q → client_step plan s c (client_at s c) q ≡ Some after → Move plan s c after
 move_in plan s c after Ready is e = asking plan s c after (next_op plan c (client_at s c)) refl (inl is) e
@@ -66,9 +69,6 @@ pub move_of : (plan : Plan) (s : State) (actor : Actor) (after : State) → step
 unfolding step
 move_of plan s (Client c) after e = by (nat_lt c (length s.clients)) refl e
   where
-    below : (a b : ℕ) → nat_lt a b ≡ true → a < b
-    below a b t = grind (arith, nat_tests)
-
     by : (b : Bool) → nat_lt c (length s.clients) ≡ b → (if b then client_step plan s c (client_at s c) (client_at s c).phase else None) ≡ Some after → Moved plan s (Client c) after
     by true lt i = record { client = c; is = refl; within = below c (length s.clients) lt; move = move_in plan s c after (client_at s c).phase refl i }
     by false lt i = cc

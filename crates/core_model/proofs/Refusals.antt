@@ -20,7 +20,7 @@ unfolding granted refused released decided installed
 moves_on plan s c after (Grants op asks next free is) = ap (λ (z : State). z.moves) is
 moves_on plan s c after (Refuses op by asks next held is) = ap (λ (z : State). z.moves) is
 moves_on plan s c after (Releases phase is) = ap (λ (z : State). z.moves) is
-moves_on plan s c after (Decides asks next is) = ap (λ (z : State). z.moves) is
+moves_on plan s c after (Decides asks next some is) = ap (λ (z : State). z.moves) is
 moves_on plan s c after (Installs p phase at is) = ap (λ (z : State). z.moves) is
 
 abbrev refusal : State → ℕ → Op → ℕ → Refusal
@@ -40,7 +40,7 @@ unfolding granted refused released decided installed
 refusals_of plan s c after (Grants op asks next free is) = inl (ap (λ (z : State). z.refusals) is)
 refusals_of plan s c after (Refuses op by asks next held is) = inr (record { op = op; by = by; asks = asks; next = next; held = held; refusals = ap (λ (z : State). z.refusals) is })
 refusals_of plan s c after (Releases phase is) = inl (ap (λ (z : State). z.refusals) is)
-refusals_of plan s c after (Decides asks next is) = inl (ap (λ (z : State). z.refusals) is)
+refusals_of plan s c after (Decides asks next some is) = inl (ap (λ (z : State). z.refusals) is)
 refusals_of plan s c after (Installs p phase at is) = inl (ap (λ (z : State). z.refusals) is)
 
 -- moves behind moves

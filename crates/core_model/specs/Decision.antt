@@ -1,6 +1,5 @@
 -- How a transaction on hosts is decided: its reply, its stamp and its place in the history.
-use Rattle.std.specs.Prelude.{ℤ, ◌+◌, List, [], ◌∷◌, ◌++◌, if◌then◌else◌, filter, not}
-use Rattle.std.specs.Ordering.{is_lt}
+use Rattle.std.specs.Prelude.{ℤ, ◌+◌, List, [], ◌∷◌, ◌++◌, filter, not}
 use Rattle.txn_model.specs.Serial.{pair_of}
 use Rattle.txn_model.specs.declared.op.Op.{Op}
 use Rattle.txn_model.specs.declared.pairs.Pair.{Pair}

@@ -66,7 +66,7 @@ FitsPhase plan c x Locking = (length x.noted ≤ length (cold_ops plan.layout (s
 FitsPhase plan c x Aborting = x.installed ≡ 0
 FitsPhase plan c x Logged = ⊥
 FitsPhase plan c x Waiting = ⊥
-FitsPhase plan c x Installing = (length x.noted ≡ length (cold_ops plan.layout (script_now plan c x))) × (length (steps_now plan c x) ≡ length x.noted)
+FitsPhase plan c x Installing = (length x.noted ≡ length (cold_ops plan.layout (script_now plan c x))) × (length (steps_now plan c x) ≡ length x.noted) × (x.installed < length x.noted)
 FitsPhase plan c x Finished = (x.noted ≡ []) × (x.installed ≡ 0)
 
 pub record Facts (plan : Plan) (at : Clients) (store : Store) (h : History) : Type 0 where

@@ -1,5 +1,5 @@
 -- Laws over all runs of sessions of transactions on hosts.
-use Rattle.std.specs.Prelude.{◌<◌, ◌⊎◌, [], ◌∷◌, ⊤, ◌≡◌, ℕ, List, Some}
+use Rattle.std.specs.Prelude.{◌<◌, ◌≢◌, ◌⊎◌, [], ◌∷◌, ⊤, length, IsSome, ◌≡◌, ℕ, List, Some}
 use Rattle.std.specs.List.{AllByRecursion}
 use Rattle.txn_model.specs.Serial.{serial_run}
 use Rattle.txn_model.specs.Tuples.{value_at}
@@ -8,13 +8,15 @@ use Rattle.txn_model.specs.declared.op.TupleId.{TupleId}
 use Rattle.history_model.specs.History.{IsInStampOrder, AllAnswered}
 use Rattle.history_model.specs.InOrder.{seqs_of}
 use Rattle.history_model.specs.Legal.{IsLegal, scripts_of}
-use Rattle.catalogue.specs.Plan.{Plan, script_of, kind_of}
+use Rattle.catalogue.specs.Plan.{Plan, PlainItem, item_of, script_in, script_of, kind_of}
 use Rattle.catalogue.specs.Sound.{IsSound}
 use Rattle.catalogue.specs.declared.actor.Actor.{Actor}
+use Rattle.catalogue.specs.declared.actor.Actor.TheVariants.{Client}
 use Rattle.catalogue.specs.declared.kind.Kind.TheVariants.{Cold}
 use Rattle.core_model.specs.declared.phase.Phase.TheVariants.{Installing, Finished}
 use Rattle.core_model.specs.Facts.{script_at}
 use Rattle.core_model.specs.Run.{state_of}
+use Rattle.core_model.specs.Step.{step}
 use Rattle.core_model.specs.State.{ClientState, State, client_at, seen_at}
 
 -- each transaction of the session is on tuples of hosts alone
@@ -55,3 +57,11 @@ IsPast x seq = (seq < x.seq) ⊎ ((seq ≡ x.seq) × (x.phase ≡ Installing))
 pub record HasItemsInOrder (s : State) : Type 0 where
   pub ascending : (c : ℕ) → IsAscending (seqs_of c s.history)
   pub past : (c : ℕ) → AllByRecursion (IsPast (client_at s c)) (seqs_of c s.history)
+
+-- no item loses the switch
+abbrev pub HasNoLoss : Plan → Type 0
+HasNoLoss plan = (client seq : ℕ) (item : PlainItem) → item_of plan client seq ≡ Some item → IsSome (script_in item)
+
+-- each client that hasn't finished can move
+abbrev pub EachCanMove : Plan → State → Type 0
+EachCanMove plan s = (c : ℕ) → c < length s.clients → (client_at s c).phase ≢ Finished → IsSome (step plan s (Client c))

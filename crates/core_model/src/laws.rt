@@ -10,7 +10,7 @@ ghost use Rattle.std.specs.List.{AllByRecursion};
 ghost use Rattle.catalogue.specs.Plan.{Plan};
 ghost use Rattle.catalogue.specs.declared.actor.Actor.{Actor};
 ghost use Rattle.core_model.specs.Asking.{IsTrue};
-ghost use Rattle.core_model.specs.Laws.{IsReached, IsFinished, HasLegalHistory, HasSerialValues, HasItemsInOrder};
+ghost use Rattle.core_model.specs.Laws.{IsReached, IsFinished, HasLegalHistory, HasSerialValues, HasItemsInOrder, HasNoLoss, EachCanMove};
 ghost use Rattle.core_model.specs.Run.{state_of};
 ghost use Rattle.core_model.specs.State.{State};
 
@@ -37,4 +37,10 @@ pub fn items_are_in_order()
 pub fn refusals_are_true()
     ensures { (plan : Plan) (trace : List Actor) (s : State) → state_of plan trace ≡ Some s
         → AllByRecursion (IsTrue plan trace) s.refusals }
+{}
+
+/// In a session that never loses the switch, each client that hasn't finished can move, whatever the
+/// others hold. None waits for a lock.
+pub fn no_client_is_stuck()
+    ensures { (plan : Plan) (s : State) → IsReached plan s → HasNoLoss plan → EachCanMove plan s }
 {}
