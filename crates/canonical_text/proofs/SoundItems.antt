@@ -1,29 +1,16 @@
 -- In a sound session a read has no needs.
-use Rattle.std.proofs.Common.{◌≡◌, ℕ, ◌+◌, ◌||◌, ◌==◌, length, List, [], ◌∷◌, Bool, true, false, not, Option, Some, None, nat_lt, if◌then◌else◌, refl}
+use Rattle.std.proofs.Common.{◌≡◌, ℕ, ◌+◌, ◌||◌, List, [], ◌∷◌, Bool, true, false, not, Some, None, nat_lt, if◌then◌else◌, refl}
 use Rattle.std.proofs.lemmas.List.Elements.{recursion_from_All}
 use Rattle.std.specs.List.{All, AllByRecursion, list_any}
 use Rattle.txn_model.specs.Needs.{needs_list}
-use Rattle.txn_model.specs.ScriptCheck.{is_read, uses_badly, first_repeat, first_bad_use, first_of, script_fault}
+use Rattle.txn_model.specs.ScriptCheck.{is_read, uses_badly, first_bad_use}
 use Rattle.txn_model.specs.declared.op.Need.{Need}
 use Rattle.txn_model.specs.declared.op.Op.{Op}
-use Rattle.txn_model.specs.declared.script.ScriptFault.{ScriptFault}
-use Rattle.txn_model.specs.declared.script.ScriptFault.TheVariants.{Empty, TooLong, TupleTwice, BadUse}
 use Rattle.catalogue.specs.Plan.{Plan, PlainItem, Run, Lose}
 use Rattle.catalogue.specs.Sound.{IsFitItem}
 use Rattle.canonical_text.specs.Typed.{IsTypedOp, IsTypedItem}
 use Rattle.canonical_text.proofs.ReadsBack.{ReadsAlone, IsReadable}
-
-no_bad_use : (empty long : Bool) (e f : ScriptFault) (repeat bad : Option ℕ) → (if empty then Some e else (if long then Some f else first_of repeat TupleTwice (first_of bad BadUse None))) ≡ None
-    → bad ≡ None
-no_bad_use true long e f repeat bad h = cc h
-no_bad_use false true e f repeat bad h = cc h
-no_bad_use false false e f (Some k) bad h = cc h
-no_bad_use false false e f None (Some k) h = cc h
-no_bad_use false false e f None None h = refl
-
-script_uses : (ops : List Op) → script_fault ops ≡ None → first_bad_use 0 ops ≡ None
-unfolding script_fault
-script_uses ops h = no_bad_use (length ops == 0) (nat_lt 16 (length ops)) Empty (TooLong (length ops)) (first_repeat [] ops) (first_bad_use 0 ops) h
+use Rattle.canonical_text.proofs.ScriptsBack.{keeps}
 
 no_needs : (reads : Bool) (k : ℕ) (needs : List Need) → list_any (λ n. reads || not (nat_lt n.from k)) needs ≡ false → reads ≡ true → needs ≡ []
 no_needs reads k [] good is = refl
@@ -43,7 +30,7 @@ both P Q [] p q = tt
 both P Q (x ∷ xs) p q = ((p.0, q.0), both P Q xs p.1 q.1)
 
 item_readable : (plan : Plan) (item : PlainItem) → IsFitItem plan item → IsTypedItem item → IsReadable item
-item_readable plan (Run ops) fit typed = both IsTypedOp ReadsAlone ops typed (reads_alone 0 ops (script_uses ops fit.script))
+item_readable plan (Run ops) fit typed = both IsTypedOp ReadsAlone ops typed (reads_alone 0 ops (keeps ops fit.script).earlier)
 item_readable plan Lose fit typed = tt
 
 client_readable : (plan : Plan) (items : List PlainItem) → AllByRecursion (IsFitItem plan) items → AllByRecursion IsTypedItem items → AllByRecursion IsReadable items
