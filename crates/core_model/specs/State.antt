@@ -1,12 +1,10 @@
 -- States of the core.
-use Rattle.std.specs.Prelude.{ℕ, ℤ, pos, nat_le, if◌then◌else◌, List, [], slice_index_or, unwrap_or}
-use Rattle.std.specs.FinMap as fin
-use Rattle.txn_model.specs.Tuples.{tuple_cmp}
+use Rattle.std.specs.Prelude.{ℕ, nat_le, if◌then◌else◌, List, [], slice_index_or, unwrap_or}
 use Rattle.txn_model.specs.declared.op.Op.{Op}
-use Rattle.txn_model.specs.declared.op.TupleId.{TupleId}
 use Rattle.txn_model.specs.declared.pairs.Pair.{Pair}
 use Rattle.txn_model.specs.declared.stamp.Seen.{Seen}
 use Rattle.txn_model.specs.declared.stamp.Stamp.{Stamp}
+pub use Rattle.host_store.specs.Store.{Store, first_seen, seen_at}
 use Rattle.history_model.specs.History.{History}
 use Rattle.catalogue.specs.Plan.{Plan, script_of}
 use Rattle.core_model.specs.declared.phase.Phase.{Phase}
@@ -25,10 +23,6 @@ pub record ClientState : Type 0 where
   pub last : Stamp
   pub reply : List Pair
 
--- cold tuples with their values and stamps
-abbrev pub Store : Type 0
-Store = fin.FinMap tuple_cmp Seen
-
 -- the clients, the store, the history, the refusals so far, and how many moves were made
 pub record State : Type 0 where
   pub clients : List ClientState
@@ -44,16 +38,8 @@ zero_stamp = record { number = 0; sub = 0 }
 abbrev pub at_item : ℕ → ℕ → Stamp → ClientState
 at_item items seq last = record { phase = if nat_le seq items then Ready else Finished; seq = seq; refused = 0; noted = []; installed = 0; last = last; reply = [] }
 
--- what a tuple has at first
-abbrev pub first_seen : ℤ → Seen
-first_seen value = record { value = value; stamp = zero_stamp }
-
 abbrev pub client_at : State → ℕ → ClientState
 client_at s c = slice_index_or s.clients c (at_item 0 1 zero_stamp)
-
--- what the store has at a tuple
-abbrev pub seen_at : Store → TupleId → Seen
-seen_at store t = unwrap_or (fin.get store t) (first_seen (pos 0))
 
 -- the script of a client's present item; no operations where there is none
 abbrev pub script_now : Plan → ℕ → ClientState → List Op

@@ -1,13 +1,13 @@
 -- The step of the core: what the move of an actor makes of a state; None where it can't move.
 use Rattle.std.specs.Prelude.{ℕ, ◌+◌, ◌-◌, ◌==◌, nat_lt, List, [], ◌∷◌, ◌++◌, map, length, take, set, slice_get, Option, Some, None, option_map, if◌then◌else◌}
-use Rattle.std.specs.FinMap as fin
 use Rattle.txn_model.specs.declared.op.Op.{Op}
 use Rattle.txn_model.specs.declared.stamp.Seen.{Seen}
+use Rattle.host_store.specs.Store as hosts
 use Rattle.history_model.specs.Chain.{Step}
 use Rattle.catalogue.specs.Plan.{Plan, items_of}
 use Rattle.catalogue.specs.declared.actor.Actor.{Actor}
 use Rattle.catalogue.specs.declared.actor.Actor.TheVariants.{Client, Port, Stage, Recover}
-use Rattle.history_model.specs.History.{greater, with_entry}
+use Rattle.history_model.specs.History.{with_entry}
 use Rattle.core_model.specs.declared.phase.Phase.{Phase}
 use Rattle.core_model.specs.declared.phase.Phase.TheVariants.{Ready, Locking, Aborting, Logged, Waiting, Installing, Finished}
 use Rattle.core_model.specs.State.{ClientState, State, at_item, client_at, seen_at, script_now}
@@ -76,7 +76,7 @@ installed plan s c client step =
     let t = step.0.tuple in
     let all = length (cold_steps plan.layout (script_now plan c client) client.reply) in
     record (moved s c (installed_one plan c client all)) {
-      store = fin.insert s.store t (record { value = step.1.now; stamp = greater (seen_at s.store t).stamp client.last });
+      store = hosts.installed s.store t step.1.now client.last;
     }
 
 -- the move of a client that asks for its next lock where one is left, and else decides
