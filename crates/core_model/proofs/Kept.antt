@@ -225,7 +225,7 @@ module _ (plan : Plan) (hosts : (c seq : ℕ) → OnHosts plan.layout (script_at
   kept_by_move after (Refuses op by asks next held is) = subst (Holds plan) (sym is) (refused_kept op by (not_decided x asks) (asks_fit asks).0)
   kept_by_move after (Releases phase is) =
       let fit : FitsPhase plan c x Aborting = subst (λ (p : Phase). FitsPhase plan c x p) phase (holds.facts.fits c) in
-      subst (Holds plan) (sym is) (released_kept (λ i. let e : Aborting ≡ Installing = sym phase ∙ i in cc) fit)
+      subst (Holds plan) (sym is) (released_kept (λ i. let e : Aborting ≡ Installing = sym phase ∙ i in cc) fit.0)
   kept_by_move after (Decides asks next some is) =
       subst (Holds plan) (sym is) (decided_kept (not_decided x asks) (asks_fit asks).0 some (omega (arith, (asks_fit asks).1, past_none (cold_ops plan.layout (script_now plan c x)) (length x.noted) next, ap length (cold c))))
   kept_by_move after (Installs p phase at is) = subst (Holds plan) (sym is) (installed_kept p phase at)

@@ -19,9 +19,10 @@ use Rattle.catalogue.specs.Sound.{IsSound}
 use Rattle.catalogue.specs.declared.kind.Kind.TheVariants.{Hot, Warm, Cold}
 use Rattle.core_model.specs.declared.phase.Phase.TheVariants.{Installing, Finished}
 use Rattle.core_model.specs.Facts.{script_at, script_of_entry, answered}
-use Rattle.core_model.specs.Laws.{IsCold, IsReached, HasLegalHistory, IsFinished, HasSerialValues, HasItemsInOrder, HasNoLoss, EachCanMove}
+use Rattle.core_model.specs.Laws.{IsCold, IsReached, HasLegalHistory, IsFinished, HasSerialValues, HasItemsInOrder, HasNoLoss, EachCanMove, IsBounded}
 use Rattle.core_model.specs.Run.{state_of, opening}
 use Rattle.core_model.specs.State.{ClientState, State, at_item, zero_stamp, client_at}
+use Rattle.core_model.proofs.Bounded.{within_by_moves, within_at_opening}
 use Rattle.core_model.proofs.Decided.{IsDistinct, distinct_from}
 use Rattle.core_model.proofs.InOrder.{in_order_by_moves}
 use Rattle.core_model.proofs.Kept.{Holds, kept_by_moves}
@@ -122,4 +123,10 @@ pub none_stuck : (plan : Plan) (s : State) → IsReached plan s → HasNoLoss pl
 unfolding state_of
 none_stuck plan s reached none =
     each_can_move plan s reached.sound none (holds plan s reached) (λ c. cold_ops-all plan.layout (script_at plan c (client_at s c).seq) (all_on_hosts plan reached.cold c (client_at s c).seq))
-    (present_by_moves plan reached.trace (opening plan) s (present_at_opening plan) reached.run)
+    (present_by_moves plan reached.trace (opening plan) s (present_at_opening plan reached.sound.limits.tries.0) reached.run)
+
+pub moves_bounded : (plan : Plan) (s : State) → IsReached plan s → IsBounded plan s
+unfolding state_of
+moves_bounded plan s reached =
+    let tries = reached.sound.limits.tries.0 in
+    within_by_moves plan (all_on_hosts plan reached.cold) (all_distinct plan reached.sound) reached.trace (opening plan) s (holds_at_opening plan) (present_at_opening plan tries) (within_at_opening plan tries) reached.run

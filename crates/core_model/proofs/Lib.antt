@@ -14,3 +14,4 @@ pub mod MoveKinds
 pub mod Refusals
 pub mod InOrder
 pub mod Stuck
+pub mod Bounded

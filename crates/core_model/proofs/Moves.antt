@@ -147,6 +147,6 @@ aborts plan c x (seen ∷ others) is none = record {
     noted = λ k s op st at. is.at k s at;
   };
   undecided = λ i. cc;
-  fit = none;
+  fit = (none, omega arith);
   last = refl;
 }

@@ -25,36 +25,42 @@ use Rattle.core_model.proofs.Kept.{Holds, past_none}
 use Rattle.core_model.proofs.MoveKinds.{Move, Grants, Refuses, Releases, Decides, Installs, move_of}
 use Rattle.core_model.proofs.Moves.{moved_client, others_stay}
 
--- unless it has finished, a client is at one of its items
+-- unless it has finished, a client is at one of its items, and has a try left
 abbrev pub IsPresent : Plan → ℕ → ClientState → Type 0
-IsPresent plan c x = x.phase ≢ Finished → (1 ≤ x.seq) × (x.seq ≤ length (items_of plan c))
+IsPresent plan c x = x.phase ≢ Finished → (1 ≤ x.seq) × (x.seq ≤ length (items_of plan c)) × (x.refused < plan.tries)
 
-present_at : (plan : Plan) (c seq : ℕ) (x : ClientState) → 1 ≤ seq → IsPresent plan c (at_item (length (items_of plan c)) seq x.last)
-present_at plan c seq x one active = by (nat_le seq (length (items_of plan c))) refl active
+present_at : (plan : Plan) (c seq : ℕ) (x : ClientState) → 1 ≤ plan.tries → 1 ≤ seq → IsPresent plan c (at_item (length (items_of plan c)) seq x.last)
+present_at plan c seq x tries one active = by (nat_le seq (length (items_of plan c))) refl active
   where
     within : (a b : ℕ) → nat_le a b ≡ true → a ≤ b
     within a b t = grind (arith, nat_tests)
 
-    by : (b : Bool) → nat_le seq (length (items_of plan c)) ≡ b → (if b then Ready else Finished) ≢ Finished → (1 ≤ seq) × (seq ≤ length (items_of plan c))
-    by true is n = (one, within seq (length (items_of plan c)) is)
+    by : (b : Bool) → nat_le seq (length (items_of plan c)) ≡ b → (if b then Ready else Finished) ≢ Finished → (1 ≤ seq) × (seq ≤ length (items_of plan c)) × (0 < plan.tries)
+    by true is n = (one, within seq (length (items_of plan c)) is, tries)
     by false is n = absurd (n refl)
 
-present_again : (plan : Plan) (c : ℕ) (x : ClientState) → (1 ≤ x.seq) × (x.seq ≤ length (items_of plan c)) → IsPresent plan c (try_ended plan c x)
-present_again plan c x at = by (x.refused + 1 == plan.tries)
+present_again : (plan : Plan) (c : ℕ) (x : ClientState) → (1 ≤ x.seq) × (x.seq ≤ length (items_of plan c)) × (x.refused < plan.tries) → IsPresent plan c (try_ended plan c x)
+present_again plan c x at = by (x.refused + 1 == plan.tries) refl
   where
-    by : (b : Bool) → IsPresent plan c (if b then next_item plan c x else record { phase = Ready; seq = x.seq; refused = x.refused + 1; noted = []; installed = 0; last = x.last; reply = [] })
-    by true = present_at plan c (x.seq + 1) x (omega arith)
-    by false = λ _. at
+    tries : 1 ≤ plan.tries
+    tries = omega (arith, at.2)
 
-present_aborting : (plan : Plan) (c : ℕ) (x : ClientState) (front : List Seen) → (1 ≤ x.seq) × (x.seq ≤ length (items_of plan c)) → IsPresent plan c (aborting plan c x front)
+    below : (r n : ℕ) → r < n → (r + 1 == n) ≡ false → r + 1 < n
+    below r n lt e = grind (arith, nat_tests)
+
+    by : (b : Bool) → (x.refused + 1 == plan.tries) ≡ b → IsPresent plan c (if b then next_item plan c x else record { phase = Ready; seq = x.seq; refused = x.refused + 1; noted = []; installed = 0; last = x.last; reply = [] })
+    by true e = present_at plan c (x.seq + 1) x tries (omega arith)
+    by false e = λ _. (at.0, at.1, below x.refused plan.tries at.2 e)
+
+present_aborting : (plan : Plan) (c : ℕ) (x : ClientState) (front : List Seen) → (1 ≤ x.seq) × (x.seq ≤ length (items_of plan c)) × (x.refused < plan.tries) → IsPresent plan c (aborting plan c x front)
 present_aborting plan c x [] at = present_again plan c x at
 present_aborting plan c x (seen ∷ others) at = λ _. at
 
-present_installed : (plan : Plan) (c : ℕ) (x : ClientState) (all : ℕ) → (1 ≤ x.seq) × (x.seq ≤ length (items_of plan c)) → IsPresent plan c (installed_one plan c x all)
+present_installed : (plan : Plan) (c : ℕ) (x : ClientState) (all : ℕ) → (1 ≤ x.seq) × (x.seq ≤ length (items_of plan c)) × (x.refused < plan.tries) → IsPresent plan c (installed_one plan c x all)
 present_installed plan c x all at = by (x.installed + 1 == all)
   where
     by : (b : Bool) → IsPresent plan c (if b then next_item plan c x else record x { installed = x.installed + 1 })
-    by true = present_at plan c (x.seq + 1) x (omega arith)
+    by true = present_at plan c (x.seq + 1) x (omega (arith, at.2)) (omega arith)
     by false = λ _. at
 
 -- each client is
@@ -64,7 +70,7 @@ ArePresent plan s = (c : ℕ) → IsPresent plan c (client_at s c)
 abbrev Becomes : Plan → State → ℕ → State → Type 0
 Becomes plan s c after = (y : ClientState) × (after.clients ≡ set s.clients c y) × IsPresent plan c y
 
-asking_open : (x : ClientState) → IsAsking x → x.phase ≢ Finished
+pub asking_open : (x : ClientState) → IsAsking x → x.phase ≢ Finished
 asking_open x (inl e) i = let clash : Ready ≡ Finished = sym e ∙ i in cc
 asking_open x (inr e) i = let clash : Locking ≡ Finished = sym e ∙ i in cc
 
@@ -82,7 +88,7 @@ becomes plan s c after here (Installs p phase at is) = (_, ap (λ (z : State). z
     clash : Installing ≡ Finished → ⊥
     clash e = cc
 
-present_moved : (plan : Plan) (s : State) (c : ℕ) (after : State) → c < length s.clients → ArePresent plan s → Move plan s c after → ArePresent plan after
+pub present_moved : (plan : Plan) (s : State) (c : ℕ) (after : State) → c < length s.clients → ArePresent plan s → Move plan s c after → ArePresent plan after
 present_moved plan s c after lt here move d =
     let b = becomes plan s c after (here c) move in
     elim (same_or_not d c) [
@@ -103,14 +109,14 @@ present_by_moves plan (actor ∷ trace) s after here moves =
     by (Some next) is e go = go next is e
     by None is e go = cc
 
-pub present_at_opening : (plan : Plan) → ArePresent plan (opening plan)
+pub present_at_opening : (plan : Plan) → 1 ≤ plan.tries → ArePresent plan (opening plan)
 unfolding opening
-present_at_opening plan c = first plan.clients c refl
+present_at_opening plan tries c = first plan.clients c refl
   where
     -- the client's items are those at its place
     first : (lists : List (List PlainItem)) (d : ℕ) → get_or lists d [] ≡ items_of plan c → IsPresent plan c (get_or (first_clients lists) d (at_item 0 1 zero_stamp))
     first [] d is = λ active. absurd (active refl)
-    first (items ∷ lists) zero is = subst (λ (l : List PlainItem). IsPresent plan c (at_item (length l) 1 zero_stamp)) (sym is) (present_at plan c 1 (at_item 0 1 zero_stamp) (omega arith))
+    first (items ∷ lists) zero is = subst (λ (l : List PlainItem). IsPresent plan c (at_item (length l) 1 zero_stamp)) (sym is) (present_at plan c 1 (at_item 0 1 zero_stamp) tries (omega arith))
     first (items ∷ lists) (suc d) is = first lists d is
 
 -- a script without a fault has an operation
@@ -120,8 +126,8 @@ not_empty [] e = cc
 not_empty (op ∷ ops) e = omega arith
 
 -- the script of a present item has an operation
-some_op : (plan : Plan) (c : ℕ) (x : ClientState) → IsSound plan → HasNoLoss plan → (1 ≤ x.seq) × (x.seq ≤ length (items_of plan c)) → 1 ≤ length (script_now plan c x)
-some_op plan c x sound none at = by (script_of plan c x.seq) refl (scripted (x.seq == 0) refl)
+some_op : (plan : Plan) (c : ℕ) (x : ClientState) → IsSound plan → HasNoLoss plan → 1 ≤ x.seq → x.seq ≤ length (items_of plan c) → 1 ≤ length (script_now plan c x)
+some_op plan c x sound none one in_items = by (script_of plan c x.seq) refl (scripted (x.seq == 0) refl)
   where
     positive : (n : ℕ) → 1 ≤ n → (n == 0) ≡ true → ⊥
     positive n one e = grind (arith, nat_tests)
@@ -131,9 +137,9 @@ some_op plan c x sound none at = by (script_of plan c x.seq) refl (scripted (x.s
     in_item None is h = cc
 
     scripted : (b : Bool) → (x.seq == 0) ≡ b → IsSome (script_of plan c x.seq)
-    scripted true e = absurd (positive x.seq at.0 e)
+    scripted true e = absurd (positive x.seq one e)
     scripted false e =
-        let found = item_at_place (items_of plan c) (x.seq - 1) (omega (arith, at.0, at.1)) in
+        let found = item_at_place (items_of plan c) (x.seq - 1) (omega (arith, one, in_items)) in
         let here : item_of plan c x.seq ≡ Some found.0 = ap (λ (b : Bool). if b then None else slice_get (items_of plan c) (x.seq - 1)) e ∙ found.1 in
         in_item (item_of plan c x.seq) refl (subst IsSome (sym here) refl)
 
@@ -165,4 +171,4 @@ unfolding step
 each_can_move plan s sound none holds cold here c lt active =
     let x = client_at s c in
     subst (λ (b : Bool). IsSome (if b then client_step plan s c x x.phase else None)) (sym (lt_true c (length s.clients) lt))
-    (client_can_move plan s c x x.phase refl (holds.facts.fits c) active (omega (arith, ap length (cold c), some_op plan c x sound none (here c active))))
+    (client_can_move plan s c x x.phase refl (holds.facts.fits c) active (omega (arith, ap length (cold c), some_op plan c x sound none (here c active).0 (here c active).1)))

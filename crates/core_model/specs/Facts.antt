@@ -63,7 +63,7 @@ NoOpenWriter plan at t = (c k : ℕ) (op : Op) → Stands plan c (at c) k op →
 abbrev pub FitsPhase : Plan → ℕ → ClientState → Phase → Type 0
 FitsPhase plan c x Ready = (x.noted ≡ []) × (x.installed ≡ 0)
 FitsPhase plan c x Locking = (length x.noted ≤ length (cold_ops plan.layout (script_now plan c x))) × (x.installed ≡ 0)
-FitsPhase plan c x Aborting = x.installed ≡ 0
+FitsPhase plan c x Aborting = (x.installed ≡ 0) × (0 < length x.noted)
 FitsPhase plan c x Logged = ⊥
 FitsPhase plan c x Waiting = ⊥
 FitsPhase plan c x Installing = (length x.noted ≡ length (cold_ops plan.layout (script_now plan c x))) × (length (steps_now plan c x) ≡ length x.noted) × (x.installed < length x.noted)

@@ -1,5 +1,5 @@
 -- Laws over all runs of sessions of transactions on hosts.
-use Rattle.std.specs.Prelude.{◌<◌, ◌≢◌, ◌⊎◌, [], ◌∷◌, ⊤, length, IsSome, ◌≡◌, ℕ, List, Some}
+use Rattle.std.specs.Prelude.{◌+◌, ◌<◌, ◌≤◌, ◌≢◌, ◌⊎◌, [], ◌∷◌, ⊤, length, IsSome, ◌≡◌, ℕ, List, Some}
 use Rattle.std.specs.List.{AllByRecursion}
 use Rattle.txn_model.specs.Serial.{serial_run}
 use Rattle.txn_model.specs.Tuples.{value_at}
@@ -14,6 +14,7 @@ use Rattle.catalogue.specs.declared.actor.Actor.{Actor}
 use Rattle.catalogue.specs.declared.actor.Actor.TheVariants.{Client}
 use Rattle.catalogue.specs.declared.kind.Kind.TheVariants.{Cold}
 use Rattle.core_model.specs.declared.phase.Phase.TheVariants.{Installing, Finished}
+use Rattle.core_model.specs.Bound.{moves_left, move_bound}
 use Rattle.core_model.specs.Facts.{script_at}
 use Rattle.core_model.specs.Run.{state_of}
 use Rattle.core_model.specs.Step.{step}
@@ -65,3 +66,7 @@ HasNoLoss plan = (client seq : ℕ) (item : PlainItem) → item_of plan client s
 -- each client that hasn't finished can move
 abbrev pub EachCanMove : Plan → State → Type 0
 EachCanMove plan s = (c : ℕ) → c < length s.clients → (client_at s c).phase ≢ Finished → IsSome (step plan s (Client c))
+
+-- the moves that were made and those that are left are no more than the session's bound
+abbrev pub IsBounded : Plan → State → Type 0
+IsBounded plan s = s.moves + moves_left plan s ≤ move_bound plan

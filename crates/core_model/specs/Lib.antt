@@ -7,3 +7,4 @@ pub mod Run
 pub mod Facts
 pub mod Laws
 pub mod Asking
+pub mod Bound

@@ -10,7 +10,7 @@ ghost use Rattle.std.specs.List.{AllByRecursion};
 ghost use Rattle.catalogue.specs.Plan.{Plan};
 ghost use Rattle.catalogue.specs.declared.actor.Actor.{Actor};
 ghost use Rattle.core_model.specs.Asking.{IsTrue};
-ghost use Rattle.core_model.specs.Laws.{IsReached, IsFinished, HasLegalHistory, HasSerialValues, HasItemsInOrder, HasNoLoss, EachCanMove};
+ghost use Rattle.core_model.specs.Laws.{IsReached, IsFinished, HasLegalHistory, HasSerialValues, HasItemsInOrder, HasNoLoss, EachCanMove, IsBounded};
 ghost use Rattle.core_model.specs.Run.{state_of};
 ghost use Rattle.core_model.specs.State.{State};
 
@@ -43,4 +43,10 @@ pub fn refusals_are_true()
 /// others hold. None waits for a lock.
 pub fn no_client_is_stuck()
     ensures { (plan : Plan) (s : State) → IsReached plan s → HasNoLoss plan → EachCanMove plan s }
+{}
+
+/// The moves that were made, with those that are left at most, are no more than the session's bound: each
+/// move leaves fewer.
+pub fn moves_are_bounded()
+    ensures { (plan : Plan) (s : State) → IsReached plan s → IsBounded plan s }
 {}
