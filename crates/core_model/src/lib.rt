@@ -2,7 +2,7 @@
 //!
 //! Definitions and laws alone. Every move is one event; a run is the fold of the step over a list of
 //! actors. It knows no lock table, no map and no thread: code that keeps those refines this machine.
-//! Today it moves transactions on hosts; a hot or warm one would find no move.
+//! Today its moves are those of transactions on hosts alone, and the laws speak of sessions of such.
 #![tactic(auto)]
 
 mod laws;
