@@ -10,6 +10,7 @@ use Rattle.history_model.specs.InOrder.{seqs_of}
 use Rattle.catalogue.specs.Plan.{Plan}
 use Rattle.catalogue.specs.declared.actor.Actor.{Actor}
 use Rattle.core_model.specs.declared.phase.Phase.TheVariants.{Ready, Aborting, Installing}
+use Rattle.core_model.specs.Asking.{IsAsking}
 use Rattle.core_model.specs.Decision.{greatest, next_sub}
 use Rattle.core_model.specs.Laws.{IsAscending, IsPast, HasItemsInOrder}
 use Rattle.core_model.specs.StampOrder.{Below}
@@ -99,13 +100,13 @@ all_before x (q ∷ l) n all = (one all.0, all_before x l n all.1)
     one (inr p) = absurd (n p.1)
 
 -- a move that adds no entry, or the decision of the client
-record Stays (s : State) (c : ℕ) (after : State) : Type 0 where
+pub record Stays (s : State) (c : ℕ) (after : State) : Type 0 where
   pub y : ClientState
   pub clients : after.clients ≡ set s.clients c y
   pub history : after.history ≡ s.history
   pub advances : Advances (client_at s c) y
 
-record Decided (s : State) (c : ℕ) (after : State) : Type 0 where
+pub record Decided (s : State) (c : ℕ) (after : State) : Type 0 where
   pub y : ClientState
   pub clients : after.clients ≡ set s.clients c y
   pub undecided : (client_at s c).phase ≢ Installing
@@ -135,16 +136,9 @@ installs_on plan c x all = by (x.installed + 1 == all)
     by true = inr (omega arith)
     by false = inl (refl, λ i. i)
 
-entry_of : (plan : Plan) (s : State) (c : ℕ) (after : State) → Move plan s c after → Stays s c after ⊎ Decided s c after
-unfolding granted refused released decided installed
-entry_of plan s c after (Grants op asks next free is) = inl (record { y = _; clients = ap (λ (z : State). z.clients) is; history = ap (λ (z : State). z.history) is; advances = inl (refl, λ i. absurd (not_decided (client_at s c) asks i)) })
-entry_of plan s c after (Refuses op by asks next held is) = inl (record { y = _; clients = ap (λ (z : State). z.clients) is; history = ap (λ (z : State). z.history) is; advances = aborts_on plan c (client_at s c) (client_at s c).noted (not_decided (client_at s c) asks) })
-entry_of plan s c after (Releases phase is) = inl (record { y = _; clients = ap (λ (z : State). z.clients) is; history = ap (λ (z : State). z.history) is; advances = aborts_on plan c (client_at s c) (take (length (client_at s c).noted - 1) (client_at s c).noted) (λ i. clash (sym phase ∙ i)) })
-  where
-    clash : Aborting ≡ Installing → ⊥
-    clash e = cc
-entry_of plan s c after (Installs p phase at is) = inl (record { y = _; clients = ap (λ (z : State). z.clients) is; history = ap (λ (z : State). z.history) is; advances = installs_on plan c (client_at s c) (length (steps_now plan c (client_at s c))) })
-entry_of plan s c after (Decides asks next some is) = inr (record {
+pub decision : (plan : Plan) (s : State) (c : ℕ) (after : State) → IsAsking (client_at s c) → after ≡ decided plan s c (client_at s c) → Decided s c after
+unfolding decided
+decision plan s c after asks is = record {
   y = _;
   clients = ap (λ (z : State). z.clients) is;
   undecided = not_decided (client_at s c) asks;
@@ -155,7 +149,18 @@ entry_of plan s c after (Decides asks next some is) = inr (record {
   stamp = refl;
   same_seq = refl;
   now = refl;
-})
+}
+
+entry_of : (plan : Plan) (s : State) (c : ℕ) (after : State) → Move plan s c after → Stays s c after ⊎ Decided s c after
+unfolding granted refused released decided installed
+entry_of plan s c after (Grants op asks next free is) = inl (record { y = _; clients = ap (λ (z : State). z.clients) is; history = ap (λ (z : State). z.history) is; advances = inl (refl, λ i. absurd (not_decided (client_at s c) asks i)) })
+entry_of plan s c after (Refuses op by asks next held is) = inl (record { y = _; clients = ap (λ (z : State). z.clients) is; history = ap (λ (z : State). z.history) is; advances = aborts_on plan c (client_at s c) (client_at s c).noted (not_decided (client_at s c) asks) })
+entry_of plan s c after (Releases phase is) = inl (record { y = _; clients = ap (λ (z : State). z.clients) is; history = ap (λ (z : State). z.history) is; advances = aborts_on plan c (client_at s c) (take (length (client_at s c).noted - 1) (client_at s c).noted) (λ i. clash (sym phase ∙ i)) })
+  where
+    clash : Aborting ≡ Installing → ⊥
+    clash e = cc
+entry_of plan s c after (Installs p phase at is) = inl (record { y = _; clients = ap (λ (z : State). z.clients) is; history = ap (λ (z : State). z.history) is; advances = installs_on plan c (client_at s c) (length (steps_now plan c (client_at s c))) })
+entry_of plan s c after (Decides asks next some is) = inr (decision plan s c after asks is)
 
 module _ (plan : Plan) (s : State) (c : ℕ) (after : State) (lt : c < length s.clients) (holds : Holds plan s) (items : HasItemsInOrder s) where
   mine : (y : ClientState) → after.clients ≡ set s.clients c y → client_at after c ≡ y
@@ -174,18 +179,25 @@ module _ (plan : Plan) (s : State) (c : ℕ) (after : State) (lt : c < length s.
     ]);
   }
 
+  -- the client's new entry comes behind its others, and other clients' stay
+  pub last_of : (m : Decided s c after) → seqs_of c after.history ≡ seqs_of c s.history ++ m.entry.entry.seq ∷ []
+  last_of m = let x = client_at s c in ap (seqs_of c) m.history ∙ own_last c m.entry s.history holds.facts.sorted m.own (each_entry s.history
+      (λ f low is. subst (λ (t : Stamp). Below f.entry.stamp t) (sym m.stamp) (Below-from_AtMost f.entry.stamp (greatest x.last x.noted) (next_sub (greatest x.last x.noted))
+      (AtMost-trans f.entry.stamp x.last (greatest x.last x.noted) (low is) (AtMost-greatest x.noted x.last)) (Below-next_sub (greatest x.last x.noted)))) (holds.facts.own c))
+
+  pub others_of : (m : Decided s c after) (d : ℕ) → d ≢ c → seqs_of d after.history ≡ seqs_of d s.history
+  others_of m d n = ap (seqs_of d) m.history ∙ others_same d m.entry s.history holds.facts.sorted (λ e. n (sym e ∙ m.own))
+
   in_order_decided : Decided s c after → HasItemsInOrder after
   in_order_decided m =
       let x = client_at s c in
       let before = all_before x (seqs_of c s.history) m.undecided (items.past c) in
-      let last : seqs_of c after.history ≡ seqs_of c s.history ++ m.entry.entry.seq ∷ [] = ap (seqs_of c) m.history ∙ own_last c m.entry s.history holds.facts.sorted m.own (each_entry s.history
-      (λ f low is. subst (λ (t : Stamp). Below f.entry.stamp t) (sym m.stamp) (Below-from_AtMost f.entry.stamp (greatest x.last x.noted) (next_sub (greatest x.last x.noted))
-      (AtMost-trans f.entry.stamp x.last (greatest x.last x.noted) (low is) (AtMost-greatest x.noted x.last)) (Below-next_sub (greatest x.last x.noted)))) (holds.facts.own c)) in
+      let last = last_of m in
       record {
         ascending = λ d. elim (same_or_not d c) [
           | inl e ↦ subst (λ (z : ℕ). IsAscending (seqs_of z after.history)) (sym e) (subst IsAscending (sym last)
               (ascending_last (seqs_of c s.history) m.entry.entry.seq (items.ascending c) (subst (λ (n : ℕ). AllByRecursion (λ q. q < n) (seqs_of c s.history)) (sym m.seq) before)))
-          | inr n ↦ subst IsAscending (sym (ap (seqs_of d) m.history ∙ others_same d m.entry s.history holds.facts.sorted (λ e. n (sym e ∙ m.own)))) (items.ascending d)
+          | inr n ↦ subst IsAscending (sym (others_of m d n)) (items.ascending d)
         ];
         past = λ d. elim (same_or_not d c) [
           | inl e ↦ subst (λ (z : ℕ). AllByRecursion (IsPast (client_at after z)) (seqs_of z after.history)) (sym e)
@@ -193,11 +205,11 @@ module _ (plan : Plan) (s : State) (c : ℕ) (after : State) (lt : c < length s.
               (subst (AllByRecursion (IsPast m.y)) (sym last) (all_append (IsPast m.y) (seqs_of c s.history) (m.entry.entry.seq ∷ [])
               (each_past x m.y (seqs_of c s.history) (inl (m.same_seq, λ i. m.now)) (items.past c)) (inr (m.seq ∙ sym m.same_seq, m.now), tt))))
           | inr n ↦ subst (λ (z : ClientState). AllByRecursion (IsPast z) (seqs_of d after.history)) (sym (other m.y d m.clients n))
-              (subst (AllByRecursion (IsPast (client_at s d))) (sym (ap (seqs_of d) m.history ∙ others_same d m.entry s.history holds.facts.sorted (λ e. n (sym e ∙ m.own)))) (items.past d))
+              (subst (AllByRecursion (IsPast (client_at s d))) (sym (others_of m d n)) (items.past d))
         ];
       }
 
-  in_order_moved : Move plan s c after → HasItemsInOrder after
+  pub in_order_moved : Move plan s c after → HasItemsInOrder after
   in_order_moved move = elim (entry_of plan s c after move) [
     | inl m ↦ in_order_stays m
     | inr m ↦ in_order_decided m

@@ -18,12 +18,14 @@ use Rattle.catalogue.specs.Plan.{Plan, script_of, kind_of}
 use Rattle.catalogue.specs.Sound.{IsSound}
 use Rattle.catalogue.specs.declared.kind.Kind.TheVariants.{Hot, Warm, Cold}
 use Rattle.core_model.specs.declared.phase.Phase.TheVariants.{Installing, Finished}
+use Rattle.core_model.specs.Ends.{HasEnds}
 use Rattle.core_model.specs.Facts.{script_at, script_of_entry, answered}
 use Rattle.core_model.specs.Laws.{IsCold, IsReached, HasLegalHistory, IsFinished, HasSerialValues, HasItemsInOrder, HasNoLoss, EachCanMove, IsBounded}
 use Rattle.core_model.specs.Run.{state_of, opening}
 use Rattle.core_model.specs.State.{ClientState, State, at_item, zero_stamp, client_at}
 use Rattle.core_model.proofs.Bounded.{within_by_moves, within_at_opening}
 use Rattle.core_model.proofs.Decided.{IsDistinct, distinct_from}
+use Rattle.core_model.proofs.Ended.{ends_by_moves, ends_at_opening}
 use Rattle.core_model.proofs.InOrder.{in_order_by_moves}
 use Rattle.core_model.proofs.Kept.{Holds, kept_by_moves}
 use Rattle.core_model.proofs.Opening.{holds_at_opening}
@@ -130,3 +132,8 @@ unfolding state_of
 moves_bounded plan s reached =
     let tries = reached.sound.limits.tries.0 in
     within_by_moves plan (all_on_hosts plan reached.cold) (all_distinct plan reached.sound) reached.trace (opening plan) s (holds_at_opening plan) (present_at_opening plan tries) (within_at_opening plan tries) reached.run
+
+pub items_end : (plan : Plan) (s : State) → IsReached plan s → HasEnds plan s
+unfolding state_of opening
+items_end plan s reached c =
+    (ends_by_moves plan (all_on_hosts plan reached.cold) (all_distinct plan reached.sound) reached.trace (opening plan) s (holds_at_opening plan) (record { ascending = λ d. tt; past = λ d. tt }) (ends_at_opening plan) reached.run c).past

@@ -15,3 +15,4 @@ pub mod Refusals
 pub mod InOrder
 pub mod Stuck
 pub mod Bounded
+pub mod Ended

@@ -8,3 +8,4 @@ pub mod Facts
 pub mod Laws
 pub mod Asking
 pub mod Bound
+pub mod Ends

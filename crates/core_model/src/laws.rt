@@ -10,6 +10,7 @@ ghost use Rattle.std.specs.List.{AllByRecursion};
 ghost use Rattle.catalogue.specs.Plan.{Plan};
 ghost use Rattle.catalogue.specs.declared.actor.Actor.{Actor};
 ghost use Rattle.core_model.specs.Asking.{IsTrue};
+ghost use Rattle.core_model.specs.Ends.{HasEnds};
 ghost use Rattle.core_model.specs.Laws.{IsReached, IsFinished, HasLegalHistory, HasSerialValues, HasItemsInOrder, HasNoLoss, EachCanMove, IsBounded};
 ghost use Rattle.core_model.specs.Run.{state_of};
 ghost use Rattle.core_model.specs.State.{State};
@@ -29,6 +30,12 @@ pub fn values_are_serial()
 /// item behind its present one has any.
 pub fn items_are_in_order()
     ensures { (plan : Plan) (s : State) → IsReached plan s → HasItemsInOrder s }
+{}
+
+/// Each item before a client's present one is committed, and so has an entry, or it is aborted: each of its
+/// tries was refused a lock, and it has no entry.
+pub fn items_end()
+    ensures { (plan : Plan) (s : State) → IsReached plan s → HasEnds plan s }
 {}
 
 /// Each refusal of a lock is true: behind as many moves as it says, its client was at that item and asked

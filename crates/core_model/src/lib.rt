@@ -10,7 +10,7 @@ mod phase;
 mod refusal;
 
 pub use laws::{
-    histories_are_legal, items_are_in_order, moves_are_bounded, no_client_is_stuck,
+    histories_are_legal, items_are_in_order, items_end, moves_are_bounded, no_client_is_stuck,
     refusals_are_true, values_are_serial,
 };
 pub use phase::Phase;

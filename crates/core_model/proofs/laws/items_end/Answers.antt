@@ -1,0 +1,5 @@
+use Rattle.core_model.proofs.Legal.{items_end}
+use Rattle.core_model.proofs.laws.items_end.Goals as goal
+
+pub returns : goal.returns
+returns c = items_end
