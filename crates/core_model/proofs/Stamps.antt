@@ -7,7 +7,7 @@ use Rattle.txn_model.specs.declared.stamp.Seen.{Seen}
 use Rattle.txn_model.specs.declared.stamp.Stamp.{Stamp}
 use Rattle.history_model.specs.History.{stamp_cmp, entry_cmp, greater}
 use Rattle.history_model.specs.declared.entry.Entry.{Entry}
-use Rattle.core_model.specs.Decision.{greatest, next_sub}
+use Rattle.core_model.specs.Decision.{greatest, next_sub, decision_stamp}
 use Rattle.core_model.specs.StampOrder.{Below, AtMost}
 
 pub AtMost-refl : (a : Stamp) → AtMost a a
@@ -91,3 +91,12 @@ stamp_cmp-Below a b h = elim (stamp_cmp_cases a b) [ inl p ↦ p.0 | inr p ↦ a
 -- an entry with a lower stamp stands before
 pub entry_cmp-Below : (e f : Entry) → Below e.stamp f.stamp → entry_cmp e f ≡ Less
 entry_cmp-Below e f h = ap (λ (r : Ordering). ordering_then r (nat_cmp e.client f.client)) (stamp_cmp-Below e.stamp f.stamp h)
+
+-- the stamp of a decided transaction is above its client's last one and above each that it read
+pub above_all : (last : Stamp) (noted : List Seen) → Below last (decision_stamp last noted) × AllByRecursion (λ seen. Below seen.stamp (decision_stamp last noted)) noted
+above_all last noted =
+    (Below-from_AtMost last (greatest last noted) (decision_stamp last noted) (AtMost-greatest noted last) (Below-next_sub (greatest last noted)), each noted (noted_at_most noted last))
+  where
+    each : (l : List Seen) → AllByRecursion (λ seen. AtMost seen.stamp (greatest last noted)) l → AllByRecursion (λ seen. Below seen.stamp (decision_stamp last noted)) l
+    each [] all = tt
+    each (seen ∷ l) all = (Below-from_AtMost seen.stamp (greatest last noted) (decision_stamp last noted) all.0 (Below-next_sub (greatest last noted)), each l all.1)

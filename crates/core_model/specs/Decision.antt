@@ -25,6 +25,10 @@ greatest stamp (seen ∷ others) = greatest (greater stamp seen.stamp) others
 abbrev pub next_sub : Stamp → Stamp
 next_sub stamp = record { number = stamp.number; sub = stamp.sub + 1 }
 
+-- the stamp of a transaction: above the client's last one and above all that it read
+abbrev pub decision_stamp : Stamp → List Seen → Stamp
+decision_stamp last noted = next_sub (greatest last noted)
+
 -- the operations on tuples of hosts with their pairs
 abbrev pub cold_steps : List LayoutRow → List Op → List Pair → List Step
 cold_steps rows ops reply = filter (λ s. not (is_hot rows s.0.tuple)) (steps_of ops reply)

@@ -12,7 +12,7 @@ use Rattle.core_model.specs.declared.phase.Phase.{Phase}
 use Rattle.core_model.specs.declared.phase.Phase.TheVariants.{Ready, Locking, Aborting, Logged, Waiting, Installing, Finished}
 use Rattle.core_model.specs.State.{ClientState, State, at_item, client_at, seen_at, script_now}
 use Rattle.core_model.specs.Locks.{cold_ops, holder}
-use Rattle.core_model.specs.Decision.{pairs_from, greatest, next_sub, cold_steps}
+use Rattle.core_model.specs.Decision.{pairs_from, decision_stamp, cold_steps}
 
 -- one move, which changes this client
 abbrev pub moved : State → ℕ → ClientState → State
@@ -61,7 +61,7 @@ unfoldable pub decided : Plan → State → ℕ → ClientState → State
 decided plan s c client =
     let script = script_now plan c client in
     let reply = pairs_from [] script (map (λ seen. seen.value) client.noted) in
-    let stamp = next_sub (greatest client.last client.noted) in
+    let stamp = decision_stamp client.last client.noted in
     record (moved s c (record client { phase = Installing; last = stamp; reply = reply })) {
       history = with_entry (record { entry = record { stamp = stamp; client = c; seq = client.seq }; pairs = Some reply }) s.history;
     }

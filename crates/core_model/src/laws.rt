@@ -10,10 +10,14 @@ ghost use Rattle.std.specs.List.{AllByRecursion};
 ghost use Rattle.catalogue.specs.Plan.{Plan};
 ghost use Rattle.catalogue.specs.declared.actor.Actor.{Actor};
 ghost use Rattle.core_model.specs.Asking.{IsTrue};
+ghost use Rattle.core_model.specs.Decision.{decision_stamp};
 ghost use Rattle.core_model.specs.Ends.{HasEnds};
 ghost use Rattle.core_model.specs.Laws.{IsReached, IsFinished, HasLegalHistory, HasSerialValues, HasItemsInOrder, HasNoLoss, EachCanMove, IsBounded};
 ghost use Rattle.core_model.specs.Run.{state_of};
+ghost use Rattle.core_model.specs.StampOrder.{Below};
 ghost use Rattle.core_model.specs.State.{State};
+ghost use Rattle.txn_model.specs.declared.stamp.Seen.{Seen};
+ghost use Rattle.txn_model.specs.declared.stamp.Stamp.{Stamp};
 
 /// Whichever actors move, and whenever: the history is in stamp order, all its entries are answered, and
 /// running their scripts one after another in that order gives exactly their replies.
@@ -30,6 +34,13 @@ pub fn values_are_serial()
 /// item behind its present one has any.
 pub fn items_are_in_order()
     ensures { (plan : Plan) (s : State) → IsReached plan s → HasItemsInOrder s }
+{}
+
+/// A transaction is decided with a stamp above its client's last one and above each stamp that it read under
+/// its locks.
+pub fn decisions_stand_above()
+    ensures { (last : Stamp) (noted : List Seen) → Below last (decision_stamp last noted)
+        × AllByRecursion (λ seen. Below seen.stamp (decision_stamp last noted)) noted }
 {}
 
 /// Each item before a client's present one is committed, and so has an entry, or it is aborted: each of its

@@ -10,8 +10,8 @@ mod phase;
 mod refusal;
 
 pub use laws::{
-    histories_are_legal, items_are_in_order, items_end, moves_are_bounded, no_client_is_stuck,
-    refusals_are_true, values_are_serial,
+    decisions_stand_above, histories_are_legal, items_are_in_order, items_end, moves_are_bounded,
+    no_client_is_stuck, refusals_are_true, values_are_serial,
 };
 pub use phase::Phase;
 pub use refusal::Refusal;
