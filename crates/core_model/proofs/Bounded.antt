@@ -15,7 +15,8 @@ use Rattle.core_model.specs.Locks.{cold_ops}
 use Rattle.core_model.specs.State.{ClientState, State, at_item, client_at, script_now, seen_at, zero_stamp}
 use Rattle.core_model.specs.Facts.{FitsPhase, steps_now, script_at}
 use Rattle.core_model.specs.Run.{first_clients, opening, state_behind}
-use Rattle.core_model.specs.Step.{aborting, try_ended, next_item, granted, refused, released, decided, installed, step}
+use Rattle.core_model.specs.Step.{aborting, try_ended, next_item, granted, refused, released, decided, installed}
+use Rattle.core_model.proofs.Runs.{by_moves}
 use Rattle.core_model.proofs.Decided.{IsDistinct}
 use Rattle.core_model.proofs.StepsOf.{OnHosts, cold_ops-all}
 use Rattle.core_model.proofs.Kept.{Holds, kept_by_step}
@@ -213,22 +214,13 @@ within_moved : (plan : Plan) (s : State) (c : ℕ) (after : State) → c < lengt
 within_moved plan s c after lt l count w = omega (arith, fewer_left plan s c after lt l, count, w)
 
 pub within_by_moves : (plan : Plan) → ((c seq : ℕ) → OnHosts plan.layout (script_at plan c seq)) → ((c seq : ℕ) → IsDistinct (script_at plan c seq)) → (trace : List Actor) (s after : State) → Holds plan s → ArePresent plan s → Within plan s → state_behind plan s trace ≡ Some after → Within plan after
-within_by_moves plan hosts distinct [] s after holds here w moves = subst (Within plan) (same moves) w
-  where
-    same : {a b : State} → Some a ≡ Some b → a ≡ b
-    same e = cc
-within_by_moves plan hosts distinct (actor ∷ trace) s after holds here w moves =
-    by (step plan s actor) refl moves (λ next is e.
-    let moved = move_of plan s actor next is in
+within_by_moves plan hosts distinct trace s after holds here w moves =
+    (by_moves plan (λ z. Holds plan z × ArePresent plan z × Within plan z) (λ z next actor h is.
+    let moved = move_of plan z actor next is in
     let c = moved.client in
-    let less = lessens plan s c next (cold_ops-all plan.layout (script_now plan c (client_at s c)) (hosts c (client_at s c).seq)) (holds.facts.fits c) (here c) moved.move in
-    within_by_moves plan hosts distinct trace next after (kept_by_step plan hosts distinct s next actor holds is) (present_moved plan s c next moved.within here moved.move)
-    (within_moved plan s c next moved.within less (moves_on plan s c next moved.move) w) e)
-  where
-    by : (o : Option State) → step plan s actor ≡ o → option_and_then (λ next. state_behind plan next trace) o ≡ Some after
-        → ((next : State) → step plan s actor ≡ Some next → state_behind plan next trace ≡ Some after → Within plan after) → Within plan after
-    by (Some next) is e go = go next is e
-    by None is e go = cc
+    let less = lessens plan z c next (cold_ops-all plan.layout (script_now plan c (client_at z c)) (hosts c (client_at z c).seq)) (h.0.facts.fits c) (h.1 c) moved.move in
+    (kept_by_step plan hosts distinct z next actor h.0 is, present_moved plan z c next moved.within h.1 moved.move, within_moved plan z c next moved.within less (moves_on plan z c next moved.move) h.2))
+    trace s after (holds, here, w) moves).2
 
 -- a client before its first item
 before_all : ClientState

@@ -12,6 +12,11 @@ use Rattle.history_model.specs.Chain.{Step, steps_of, Chain, IsLocalFrom, IsAbse
 use Rattle.history_model.proofs.InsertionLaws.{absent_chain}
 use Rattle.core_model.specs.Decision.{pairs_from}
 
+-- neither of two is true
+pub or_false : (a b : Bool) → (a || b) ≡ false → (a ≡ false) × (b ≡ false)
+or_false true b e = cc
+or_false false b e = (refl, e)
+
 pub length-pairs_from : (done : List Pair) (ops : List Op) (values : List ℤ) → length values ≡ length ops → length (pairs_from done ops values) ≡ length ops
 length-pairs_from done [] values h = refl
 length-pairs_from done (op ∷ ops) [] h = absurd (omega arith)
@@ -31,11 +36,7 @@ IsDistinct (op ∷ ops) = (names ops op.tuple ≡ false) × IsDistinct ops
 pub absent-steps_of : (t : TupleId) (ops : List Op) (reply : List Pair) → names ops t ≡ false → IsAbsent t (steps_of ops reply)
 absent-steps_of t [] reply h = tt
 absent-steps_of t (op ∷ ops) [] h = tt
-absent-steps_of t (op ∷ ops) (p ∷ reply) h = let parts = both (op.tuple.0 == t.0) (names ops t) h in (parts.0, absent-steps_of t ops reply parts.1)
-  where
-    both : (a b : Bool) → (a || b) ≡ false → (a ≡ false) × (b ≡ false)
-    both true b e = cc
-    both false b e = (refl, e)
+absent-steps_of t (op ∷ ops) (p ∷ reply) h = let parts = or_false (op.tuple.0 == t.0) (names ops t) h in (parts.0, absent-steps_of t ops reply parts.1)
 
 -- each operation on the tuple finds this value
 abbrev pub AllFind : TupleId → ℤ → List Op → List ℤ → Type 0
@@ -64,10 +65,6 @@ chain-pairs_from t w done (op ∷ ops) (v ∷ values) distinct find =
 skip_if : {X : Type 0} (b : Bool) (x : X) (r : Option X) → (if b then Some x else r) ≡ None → (b ≡ false) × (r ≡ None)
 skip_if true x r h = cc
 skip_if false x r h = (refl, h)
-
-or_false : (a b : Bool) → (a || b) ≡ false → (a ≡ false) × (b ≡ false)
-or_false true b e = cc
-or_false false b e = (refl, e)
 
 names-last : (xs : List Op) (o : Op) (t : TupleId) → names (xs ++ o ∷ []) t ≡ false → (names xs t ≡ false) × ((o.tuple.0 == t.0) ≡ false)
 names-last xs o t e =

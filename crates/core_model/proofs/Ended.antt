@@ -1,7 +1,6 @@
 -- Each item before a client's present one is committed or aborted.
-use Rattle.std.proofs.Common.{◌≡◌, ◌≢◌, ◌⊎◌, ℕ, zero, suc, ◌+◌, ◌-◌, ◌<◌, ◌≤◌, ◌==◌, ◌&&◌, ◌||◌, Bool, true, false, List, [], ◌∷◌, ◌++◌, filter, length, nat_le, take, set, get_or, Option, Some, None, inl, inr, refl, sym, ap, subst, ◌∙◌, arith, if◌then◌else◌, eq-or-lt_of_le}
+use Rattle.std.proofs.Common.{◌≡◌, ◌≢◌, ◌⊎◌, ℕ, zero, suc, ◌+◌, ◌-◌, ◌<◌, ◌≤◌, ◌==◌, ◌&&◌, ◌||◌, Bool, true, false, List, [], ◌∷◌, ◌++◌, filter, length, nat_le, take, set, get_or, Some, inl, inr, refl, sym, ap, subst, ◌∙◌, arith, if◌then◌else◌, eq-or-lt_of_le}
 use Rattle.std.specs.List.{list_any, AllByRecursion}
-use Rattle.std.specs.Option.{option_and_then}
 use Rattle.std.proofs.lemmas.Bool.Decides.{nat_tests}
 use Rattle.txn_model.specs.declared.op.Op.{Op}
 use Rattle.txn_model.specs.declared.stamp.Seen.{Seen}
@@ -17,7 +16,8 @@ use Rattle.core_model.specs.Run.{opening, first_clients, state_behind}
 use Rattle.core_model.specs.Laws.{IsPast, HasItemsInOrder}
 use Rattle.core_model.specs.Ends.{has_entry, refused_times}
 use Rattle.core_model.specs.State.{ClientState, State, at_item, client_at, zero_stamp}
-use Rattle.core_model.specs.Step.{aborting, try_ended, next_item, granted, refused, released, decided, installed, installed_one, step}
+use Rattle.core_model.specs.Step.{aborting, try_ended, next_item, granted, refused, released, decided, installed, installed_one}
+use Rattle.core_model.proofs.Runs.{by_moves}
 use Rattle.core_model.proofs.Fewer.{same_or_not}
 use Rattle.core_model.proofs.InOrder.{Decided, decision, last_of, others_of, in_order_moved}
 use Rattle.core_model.proofs.Decided.{IsDistinct}
@@ -278,20 +278,11 @@ module _ (plan : Plan) (s : State) (c : ℕ) (after : State) (lt : c < length s.
   ends_moved (Decides asks next some is) = decided_ends (decision plan s c after asks is) (ap (λ (z : State). z.refusals) is)
 
 pub ends_by_moves : (plan : Plan) → ((c seq : ℕ) → OnHosts plan.layout (script_at plan c seq)) → ((c seq : ℕ) → IsDistinct (script_at plan c seq)) → (trace : List Actor) (s after : State) → Holds plan s → HasItemsInOrder s → EndsAll plan s → state_behind plan s trace ≡ Some after → EndsAll plan after
-ends_by_moves plan hosts distinct [] s after holds items ends moves = subst (EndsAll plan) (same moves) ends
-  where
-    same : {a b : State} → Some a ≡ Some b → a ≡ b
-    same e = cc
-ends_by_moves plan hosts distinct (actor ∷ trace) s after holds items ends moves =
-    by (step plan s actor) refl moves (λ next is e.
-    let moved = move_of plan s actor next is in
-    ends_by_moves plan hosts distinct trace next after (kept_by_step plan hosts distinct s next actor holds is) (in_order_moved plan s moved.client next moved.within holds items moved.move)
-    (ends_moved plan s moved.client next moved.within holds items ends moved.move) e)
-  where
-    by : (o : Option State) → step plan s actor ≡ o → option_and_then (λ next. state_behind plan next trace) o ≡ Some after
-        → ((next : State) → step plan s actor ≡ Some next → state_behind plan next trace ≡ Some after → EndsAll plan after) → EndsAll plan after
-    by (Some next) is e go = go next is e
-    by None is e go = cc
+ends_by_moves plan hosts distinct trace s after holds items ends moves =
+    (by_moves plan (λ z. Holds plan z × HasItemsInOrder z × EndsAll plan z) (λ z next actor h is.
+    let moved = move_of plan z actor next is in
+    (kept_by_step plan hosts distinct z next actor h.0 is, in_order_moved plan z moved.client next moved.within h.0 h.1 moved.move, ends_moved plan z moved.client next moved.within h.0 h.1 h.2 moved.move))
+    trace s after (holds, items, ends) moves).2
 
 first_ends : (tries : ℕ) (lists : List (List PlainItem)) (d : ℕ) → Ends tries (get_or (first_clients lists) d (at_item 0 1 zero_stamp)) (λ q. false) (λ q. 0)
 first_ends tries [] d = fresh_ends tries 0

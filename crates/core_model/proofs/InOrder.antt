@@ -1,8 +1,6 @@
 -- Each client's entries stand in its own order, and each item has at most one.
-use Rattle.std.proofs.Common.{◌≡◌, ◌≢◌, ◌⊎◌, ℕ, ◌+◌, ◌-◌, ◌<◌, ◌==◌, Bool, true, false, List, [], ◌∷◌, ◌++◌, map, filter, length, take, set, get_or, append-nil, Option, Some, None, inl, inr, refl, sym, ap, subst, ◌∙◌, arith, if◌then◌else◌, Less}
+use Rattle.std.proofs.Common.{◌≡◌, ◌≢◌, ◌⊎◌, ℕ, ◌+◌, ◌-◌, ◌<◌, ◌==◌, Bool, true, false, List, [], ◌∷◌, ◌++◌, map, filter, length, take, set, get_or, append-nil, Some, inl, inr, refl, sym, ap, subst, ◌∙◌, arith, if◌then◌else◌, Less}
 use Rattle.std.specs.List.{AllByRecursion}
-use Rattle.std.specs.Option.{option_and_then}
-use Rattle.std.proofs.lemmas.Bool.Decides.{nat_tests}
 use Rattle.txn_model.specs.declared.stamp.Seen.{Seen}
 use Rattle.txn_model.specs.declared.stamp.Stamp.{Stamp}
 use Rattle.history_model.specs.History.{HistoryEntry, History, IsInStampOrder, entry_cmp, with_entry}
@@ -15,9 +13,10 @@ use Rattle.core_model.specs.Decision.{greatest, next_sub}
 use Rattle.core_model.specs.Laws.{IsAscending, IsPast, HasItemsInOrder}
 use Rattle.core_model.specs.StampOrder.{Below}
 use Rattle.core_model.specs.State.{ClientState, State, at_item, client_at, zero_stamp}
-use Rattle.core_model.specs.Step.{aborting, try_ended, next_item, granted, refused, released, decided, installed, installed_one, step}
+use Rattle.core_model.specs.Step.{aborting, try_ended, next_item, granted, refused, released, decided, installed, installed_one}
 use Rattle.core_model.specs.Run.{state_behind}
 use Rattle.core_model.specs.Facts.{steps_now, script_at}
+use Rattle.core_model.proofs.Runs.{by_moves}
 use Rattle.core_model.proofs.Entries.{placed, not_behind}
 use Rattle.core_model.proofs.Fewer.{same_or_not, each_entry}
 use Rattle.core_model.proofs.Decided.{IsDistinct}
@@ -40,9 +39,6 @@ itself n = grind arith
 
 another : (a b : ℕ) → a ≢ b → (a == b) ≡ false
 another a b n = grind arith
-
-equal : (a b : ℕ) → (a == b) ≡ true → a ≡ b
-equal a b e = grind (arith, nat_tests)
 
 seqs_of-own : (c : ℕ) (e : HistoryEntry) (h : History) → e.entry.client ≡ c → seqs_of c (e ∷ h) ≡ e.entry.seq ∷ seqs_of c h
 seqs_of-own c e h is = ap (λ (b : Bool). map (λ f. f.entry.seq) (if b then e ∷ filter (λ f. f.entry.client == c) h else filter (λ f. f.entry.client == c) h)) (ap (λ (n : ℕ). n == c) is ∙ itself c)
@@ -216,16 +212,7 @@ module _ (plan : Plan) (s : State) (c : ℕ) (after : State) (lt : c < length s.
   ]
 
 pub in_order_by_moves : (plan : Plan) → ((c seq : ℕ) → OnHosts plan.layout (script_at plan c seq)) → ((c seq : ℕ) → IsDistinct (script_at plan c seq)) → (trace : List Actor) (s after : State) → Holds plan s → HasItemsInOrder s → state_behind plan s trace ≡ Some after → HasItemsInOrder after
-in_order_by_moves plan hosts distinct [] s after holds items moves = subst HasItemsInOrder (same moves) items
-  where
-    same : {a b : State} → Some a ≡ Some b → a ≡ b
-    same e = cc
-in_order_by_moves plan hosts distinct (actor ∷ trace) s after holds items moves =
-    by (step plan s actor) refl moves (λ next is e.
-    let moved = move_of plan s actor next is in
-    in_order_by_moves plan hosts distinct trace next after (kept_by_step plan hosts distinct s next actor holds is) (in_order_moved plan s moved.client next moved.within holds items moved.move) e)
-  where
-    by : (o : Option State) → step plan s actor ≡ o → option_and_then (λ next. state_behind plan next trace) o ≡ Some after
-        → ((next : State) → step plan s actor ≡ Some next → state_behind plan next trace ≡ Some after → HasItemsInOrder after) → HasItemsInOrder after
-    by (Some next) is e go = go next is e
-    by None is e go = cc
+in_order_by_moves plan hosts distinct trace s after holds items moves =
+    (by_moves plan (λ z. Holds plan z × HasItemsInOrder z) (λ z next actor h is.
+    let moved = move_of plan z actor next is in
+    (kept_by_step plan hosts distinct z next actor h.0 is, in_order_moved plan z moved.client next moved.within h.0 h.1 moved.move)) trace s after (holds, items) moves).1

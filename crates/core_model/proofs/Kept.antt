@@ -1,6 +1,5 @@
 -- Each move keeps the facts.
-use Rattle.std.proofs.Common.{◌≡◌, ◌≢◌, ℕ, zero, suc, ◌+◌, ◌-◌, ◌<◌, ◌≤◌, ◌==◌, ◌||◌, ◌++◌, Bool, true, false, List, [], ◌∷◌, map, length, take, slice_get, Option, Some, None, inl, inr, refl, sym, ap, subst, ◌∙◌, arith, if◌then◌else◌}
-use Rattle.std.specs.Option.{option_and_then}
+use Rattle.std.proofs.Common.{◌≡◌, ◌≢◌, ℕ, zero, suc, ◌+◌, ◌-◌, ◌<◌, ◌≤◌, ◌==◌, ◌||◌, ◌++◌, Bool, true, false, List, [], ◌∷◌, map, length, take, slice_get, Some, None, inl, inr, refl, sym, ap, subst, ◌∙◌, arith, if◌then◌else◌}
 use Rattle.std.specs.Prelude.{IsSome}
 use Rattle.std.proofs.lemmas.Bool.Decides.{nat_tests}
 use Rattle.txn_model.specs.ScriptCheck.{names}
@@ -21,6 +20,7 @@ use Rattle.core_model.specs.Decision.{pairs_from, greatest, next_sub}
 use Rattle.core_model.specs.Step.{moved, next_item, aborting, granted, refused, released, decided, installed_one, installed, step}
 use Rattle.core_model.specs.Run.{state_behind}
 use Rattle.core_model.specs.Facts.{Stands, FitsPhase, Facts, script_at, steps_now}
+use Rattle.core_model.proofs.Runs.{by_moves}
 use Rattle.core_model.proofs.Fewer.{KeepsLocks, kept_by_fewer}
 use Rattle.core_model.proofs.Decided.{IsDistinct}
 use Rattle.core_model.proofs.Granted.{AllCold, kept_by_grant}
@@ -236,14 +236,4 @@ kept_by_step plan hosts distinct s after actor holds is = let moved = move_of pl
 
 -- and so do any moves
 pub kept_by_moves : (plan : Plan) → ((c seq : ℕ) → OnHosts plan.layout (script_at plan c seq)) → ((c seq : ℕ) → IsDistinct (script_at plan c seq)) → (trace : List Actor) (s after : State) → Holds plan s → state_behind plan s trace ≡ Some after → Holds plan after
-kept_by_moves plan hosts distinct [] s after holds moves = subst (Holds plan) (same moves) holds
-  where
-    same : {a b : State} → Some a ≡ Some b → a ≡ b
-    same e = cc
-kept_by_moves plan hosts distinct (actor ∷ trace) s after holds moves =
-    by (step plan s actor) refl moves (λ next is e. kept_by_moves plan hosts distinct trace next after (kept_by_step plan hosts distinct s next actor holds is) e)
-  where
-    by : (o : Option State) → step plan s actor ≡ o → option_and_then (λ next. state_behind plan next trace) o ≡ Some after
-        → ((next : State) → step plan s actor ≡ Some next → state_behind plan next trace ≡ Some after → Holds plan after) → Holds plan after
-    by (Some next) is e go = go next is e
-    by None is e go = cc
+kept_by_moves plan hosts distinct = by_moves plan (Holds plan) (λ s next actor. kept_by_step plan hosts distinct s next actor)

@@ -1,5 +1,5 @@
 -- Histories of runs are legal, and at the end the hosts have the values of the serial run.
-use Rattle.std.proofs.Common.{◌≡◌, ℕ, zero, suc, ◌==◌, ◌||◌, nat_lt, Bool, true, false, List, [], ◌∷◌, map, length, get_or, unwrap_or, Option, Some, None, refl, sym, ap, subst, ◌∙◌, if◌then◌else◌}
+use Rattle.std.proofs.Common.{◌≡◌, ℕ, zero, suc, ◌==◌, nat_lt, Bool, true, false, List, [], ◌∷◌, map, length, get_or, unwrap_or, Option, Some, None, refl, sym, ap, subst, ◌∙◌, if◌then◌else◌}
 use Rattle.std.specs.List.{AllByRecursion, list_all, list_any}
 use Rattle.txn_model.specs.ScriptCheck.{first_repeat, first_bad_use, script_fault, first_of}
 use Rattle.txn_model.specs.Serial.{serial_run}
@@ -24,7 +24,7 @@ use Rattle.core_model.specs.Laws.{IsCold, IsReached, HasLegalHistory, IsFinished
 use Rattle.core_model.specs.Run.{state_of, opening}
 use Rattle.core_model.specs.State.{ClientState, State, at_item, zero_stamp, client_at}
 use Rattle.core_model.proofs.Bounded.{within_by_moves, within_at_opening}
-use Rattle.core_model.proofs.Decided.{IsDistinct, distinct_from}
+use Rattle.core_model.proofs.Decided.{IsDistinct, distinct_from, or_false}
 use Rattle.core_model.proofs.Ended.{ends_by_moves, ends_at_opening}
 use Rattle.core_model.proofs.InOrder.{in_order_by_moves}
 use Rattle.core_model.proofs.Kept.{Holds, kept_by_moves}
@@ -35,11 +35,7 @@ use Rattle.core_model.proofs.Stuck.{each_can_move, present_by_moves, present_at_
 -- a script of this kind names no hot tuple
 on_hosts : (rows : List LayoutRow) (ops : List Op) → list_any (λ op. is_hot rows op.tuple) ops ≡ false → OnHosts rows ops
 on_hosts rows [] e = tt
-on_hosts rows (op ∷ ops) e = let parts = both (is_hot rows op.tuple) (list_any (λ o. is_hot rows o.tuple) ops) e in (parts.0, on_hosts rows ops parts.1)
-  where
-    both : (a b : Bool) → (a || b) ≡ false → (a ≡ false) × (b ≡ false)
-    both true b e = cc
-    both false b e = (refl, e)
+on_hosts rows (op ∷ ops) e = let parts = or_false (is_hot rows op.tuple) (list_any (λ o. is_hot rows o.tuple) ops) e in (parts.0, on_hosts rows ops parts.1)
 
 cold_on_hosts : (rows : List LayoutRow) (ops : List Op) → kind_of rows ops ≡ Cold → OnHosts rows ops
 cold_on_hosts rows ops is = on_hosts rows ops (none (list_all (λ op. is_hot rows op.tuple) ops) (list_any (λ op. is_hot rows op.tuple) ops) is)

@@ -7,12 +7,13 @@ pub mod StepsOf
 pub mod Decide
 pub mod Install
 pub mod Moves
+pub mod MoveKinds
+pub mod Runs
 pub mod Kept
 pub mod Opening
-pub mod Legal
-pub mod MoveKinds
 pub mod Refusals
 pub mod InOrder
 pub mod Stuck
 pub mod Bounded
 pub mod Ended
+pub mod Legal

@@ -1,5 +1,5 @@
 -- What a move changes: one client. And what it means that no lock stands in the way.
-use Rattle.std.proofs.Common.{◌≡◌, ◌≢◌, ℕ, zero, suc, ◌+◌, ◌<◌, ◌≤◌, ◌==◌, ◌&&◌, ◌||◌, Bool, true, false, not, List, [], ◌∷◌, length, nat_le, take, drop, set, get_or, slice_get, Option, Some, None, refl, sym, ap, subst, ◌∙◌, arith, if◌then◌else◌}
+use Rattle.std.proofs.Common.{◌≡◌, ◌≢◌, ℕ, zero, suc, ◌+◌, ◌<◌, ◌≤◌, ◌==◌, ◌&&◌, Bool, true, false, not, List, [], ◌∷◌, length, nat_le, take, drop, set, get_or, slice_get, Option, Some, None, refl, sym, ap, subst, ◌∙◌, arith, if◌then◌else◌}
 use Rattle.std.specs.List.{list_any}
 use Rattle.std.proofs.lemmas.List.{get_or-set_same, get_or-set_other}
 use Rattle.txn_model.specs.declared.op.Op.{Op}
@@ -11,6 +11,7 @@ use Rattle.core_model.specs.State.{ClientState, at_item, zero_stamp, script_now}
 use Rattle.core_model.specs.Locks.{cold_ops, held, clashes, holder_from}
 use Rattle.core_model.specs.Step.{aborting, try_ended, next_item}
 use Rattle.core_model.specs.Facts.{Stands, FitsPhase}
+use Rattle.core_model.proofs.Decided.{or_false}
 use Rattle.core_model.proofs.Fewer.{KeepsLocks, OthersStay}
 
 -- the client that moved, and the others
@@ -24,16 +25,8 @@ others_stay clients c y d n = get_or-set_other clients c d y (at_item 0 1 zero_s
 pub between_places : {X : Type 0} (f : X → Bool) (xs : List X) (from to k : ℕ) (x : X) → from ≤ k → k < to → slice_get xs k ≡ Some x → list_any f (drop from (take to xs)) ≡ false → f x ≡ false
 between_places f [] from to k x low high is none = cc
 between_places f (y ∷ xs) from zero k x low high is none = absurd (omega arith)
-between_places f (y ∷ xs) zero (suc to) zero x low high is none = let same : y ≡ x = cc in ap f (sym same) ∙ (both (f y) (list_any f (take to xs)) none).0
-  where
-    both : (a b : Bool) → (a || b) ≡ false → (a ≡ false) × (b ≡ false)
-    both true b e = cc
-    both false b e = (refl, e)
-between_places f (y ∷ xs) zero (suc to) (suc k) x low high is none = between_places f xs zero to k x (omega arith) (omega arith) is ((both (f y) (list_any f (take to xs)) none).1)
-  where
-    both : (a b : Bool) → (a || b) ≡ false → (a ≡ false) × (b ≡ false)
-    both true b e = cc
-    both false b e = (refl, e)
+between_places f (y ∷ xs) zero (suc to) zero x low high is none = let same : y ≡ x = cc in ap f (sym same) ∙ (or_false (f y) (list_any f (take to xs)) none).0
+between_places f (y ∷ xs) zero (suc to) (suc k) x low high is none = between_places f xs zero to k x (omega arith) (omega arith) is ((or_false (f y) (list_any f (take to xs)) none).1)
 between_places f (y ∷ xs) (suc from) (suc to) zero x low high is none = absurd (omega arith)
 between_places f (y ∷ xs) (suc from) (suc to) (suc k) x low high is none = between_places f xs from to k x (omega arith) (omega arith) is none
 

@@ -19,6 +19,7 @@ use Rattle.core_model.specs.Locks.{cold_ops}
 use Rattle.core_model.specs.Run.{opening, first_clients, state_behind}
 use Rattle.core_model.specs.State.{ClientState, State, at_item, client_at, script_now, zero_stamp}
 use Rattle.core_model.specs.Step.{aborting, try_ended, next_item, granted, refused, released, decided, installed, installed_one, asks_or_decides, client_step, step}
+use Rattle.core_model.proofs.Runs.{by_moves}
 use Rattle.core_model.proofs.Decide.{item_at_place}
 use Rattle.core_model.proofs.Fewer.{same_or_not}
 use Rattle.core_model.proofs.Kept.{Holds, past_none}
@@ -97,17 +98,8 @@ present_moved plan s c after lt here move d =
     ]
 
 pub present_by_moves : (plan : Plan) (trace : List Actor) (s after : State) → ArePresent plan s → state_behind plan s trace ≡ Some after → ArePresent plan after
-present_by_moves plan [] s after here moves = subst (ArePresent plan) (same moves) here
-  where
-    same : {a b : State} → Some a ≡ Some b → a ≡ b
-    same e = cc
-present_by_moves plan (actor ∷ trace) s after here moves =
-    by (step plan s actor) refl moves (λ next is e. let moved = move_of plan s actor next is in present_by_moves plan trace next after (present_moved plan s moved.client next moved.within here moved.move) e)
-  where
-    by : (o : Option State) → step plan s actor ≡ o → option_and_then (λ next. state_behind plan next trace) o ≡ Some after
-        → ((next : State) → step plan s actor ≡ Some next → state_behind plan next trace ≡ Some after → ArePresent plan after) → ArePresent plan after
-    by (Some next) is e go = go next is e
-    by None is e go = cc
+present_by_moves plan =
+    by_moves plan (ArePresent plan) (λ s next actor here is. let moved = move_of plan s actor next is in present_moved plan s moved.client next moved.within here moved.move)
 
 pub present_at_opening : (plan : Plan) → 1 ≤ plan.tries → ArePresent plan (opening plan)
 unfolding opening
