@@ -129,7 +129,7 @@ one_try plan r m lt = omega (arith, ap (λ (b : Bool). if b then 0 else script_b
     less : (a n : ℕ) → a < n → (a == n) ≡ false
     less a n l = grind (arith, nat_tests)
 
-record Lessens (plan : Plan) (s : State) (c : ℕ) (after : State) : Type 0 where
+pub record Lessens (plan : Plan) (s : State) (c : ℕ) (after : State) : Type 0 where
   pub y : ClientState
   pub clients : after.clients ≡ set s.clients c y
   pub less : suc (client_left plan c y) ≤ client_left plan c (client_at s c)
@@ -144,7 +144,7 @@ module _ (plan : Plan) (s : State) (c : ℕ) (after : State) (cold : cold_ops pl
   room_of : (op : Op) → next_op plan c x ≡ Some op → length x.noted < m
   room_of op next = omega (arith, slice_get_within (cold_ops plan.layout (script_now plan c x)) (length x.noted) op next, ap length cold)
 
-  lessens : Move plan s c after → Lessens plan s c after
+  pub lessens : Move plan s c after → Lessens plan s c after
   unfolding granted refused released decided installed
   lessens (Grants op asks next free is) = record {
     y = _;
@@ -203,7 +203,7 @@ left_of_one plan k (x ∷ clients) (suc c) y lt =
     let rest = left_of_one plan (k + 1) clients c y (omega arith) in
     omega (arith, rest, ap (λ (n : ℕ). client_left plan n (get_or clients c (at_item 0 1 zero_stamp))) {x = (k + 1) + c} {y = k + suc c} (omega arith), ap (λ (n : ℕ). client_left plan n y) {x = (k + 1) + c} {y = k + suc c} (omega arith))
 
-fewer_left : (plan : Plan) (s : State) (c : ℕ) (after : State) → c < length s.clients → Lessens plan s c after → moves_left plan after + 1 ≤ moves_left plan s
+pub fewer_left : (plan : Plan) (s : State) (c : ℕ) (after : State) → c < length s.clients → Lessens plan s c after → moves_left plan after + 1 ≤ moves_left plan s
 fewer_left plan s c after lt l =
     omega (arith, ap (left_from plan 0) l.clients, left_of_one plan 0 s.clients c l.y lt, l.less, ap (λ (n : ℕ). client_left plan n (client_at s c)) {x = 0 + c} {y = c} (omega arith), ap (λ (n : ℕ). client_left plan n l.y) {x = 0 + c} {y = c} (omega arith))
 

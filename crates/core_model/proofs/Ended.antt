@@ -43,7 +43,7 @@ pub record Ends (tries : ℕ) (x : ClientState) (has : ℕ → Bool) (times : �
   pub now : x.phase ≢ Installing → times x.seq ≡ x.refused + in_abort x.phase
   pub decided : x.phase ≡ Installing → has x.seq ≡ true
 
-begun : (items seq : ℕ) (x : ClientState) → ((at_item items seq x.last).phase ≢ Installing) × (in_abort (at_item items seq x.last).phase ≡ 0)
+pub begun : (items seq : ℕ) (x : ClientState) → ((at_item items seq x.last).phase ≢ Installing) × (in_abort (at_item items seq x.last).phase ≡ 0)
 begun items seq x = by (nat_le seq items)
   where
     by : (b : Bool) → ((if b then Ready else Finished) ≢ Installing) × (in_abort (if b then Ready else Finished) ≡ 0)

@@ -74,7 +74,7 @@ ascending_last [] n up low = (tt, tt)
 ascending_last (m ∷ l) n up low = (all_append (λ q. m < q) l (n ∷ []) up.0 (low.0, tt), ascending_last l n up.1 low.1)
 
 -- a client at the same item, still decided if it was, or at a later one
-abbrev Advances : ClientState → ClientState → Type 0
+abbrev pub Advances : ClientState → ClientState → Type 0
 Advances x y = ((y.seq ≡ x.seq) × (x.phase ≡ Installing → y.phase ≡ Installing)) ⊎ (x.seq < y.seq)
 
 each_past : (x y : ClientState) (l : List ℕ) → Advances x y → AllByRecursion (IsPast x) l → AllByRecursion (IsPast y) l
@@ -105,6 +105,7 @@ pub record Stays (s : State) (c : ℕ) (after : State) : Type 0 where
 pub record Decided (s : State) (c : ℕ) (after : State) : Type 0 where
   pub y : ClientState
   pub clients : after.clients ≡ set s.clients c y
+  pub asks : IsAsking (client_at s c)
   pub undecided : (client_at s c).phase ≢ Installing
   pub entry : HistoryEntry
   pub history : after.history ≡ with_entry entry s.history
@@ -137,6 +138,7 @@ unfolding decided
 decision plan s c after asks is = record {
   y = _;
   clients = ap (λ (z : State). z.clients) is;
+  asks = asks;
   undecided = not_decided (client_at s c) asks;
   entry = _;
   history = ap (λ (z : State). z.history) is;
@@ -147,7 +149,7 @@ decision plan s c after asks is = record {
   now = refl;
 }
 
-entry_of : (plan : Plan) (s : State) (c : ℕ) (after : State) → Move plan s c after → Stays s c after ⊎ Decided s c after
+pub entry_of : (plan : Plan) (s : State) (c : ℕ) (after : State) → Move plan s c after → Stays s c after ⊎ Decided s c after
 unfolding granted refused released decided installed
 entry_of plan s c after (Grants op asks next free is) = inl (record { y = _; clients = ap (λ (z : State). z.clients) is; history = ap (λ (z : State). z.history) is; advances = inl (refl, λ i. absurd (not_decided (client_at s c) asks i)) })
 entry_of plan s c after (Refuses op by asks next held is) = inl (record { y = _; clients = ap (λ (z : State). z.clients) is; history = ap (λ (z : State). z.history) is; advances = aborts_on plan c (client_at s c) (client_at s c).noted (not_decided (client_at s c) asks) })

@@ -42,7 +42,7 @@ pub record Holds (plan : Plan) (s : State) : Type 0 where
   pub answered : AllAnswered s.history
 
 -- the operation at a place of the steps is that of the script
-op_at : (ops : List Op) (reply : List Pair) (k : ℕ) (step : Step) → slice_get (steps_of ops reply) k ≡ Some step → slice_get ops k ≡ Some step.0
+pub op_at : (ops : List Op) (reply : List Pair) (k : ℕ) (step : Step) → slice_get (steps_of ops reply) k ≡ Some step → slice_get ops k ≡ Some step.0
 op_at [] reply k step e = cc
 op_at (o ∷ ops) [] k step e = cc
 op_at (o ∷ ops) (p ∷ reply) zero step e = ap Some (first (o, p) step e)

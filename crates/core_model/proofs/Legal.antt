@@ -56,14 +56,14 @@ no_repeat ops e = parts (length ops == 0) (nat_lt 16 (length ops)) (length ops) 
     parts false false n None o e = refl
     parts false false n (Some k) o e = cc
 
-all_on_hosts : (plan : Plan) → IsCold plan → (c seq : ℕ) → OnHosts plan.layout (script_at plan c seq)
+pub all_on_hosts : (plan : Plan) → IsCold plan → (c seq : ℕ) → OnHosts plan.layout (script_at plan c seq)
 all_on_hosts plan cold c seq = by (script_of plan c seq) refl
   where
     by : (o : Option (List Op)) → script_of plan c seq ≡ o → OnHosts plan.layout (unwrap_or o [])
     by None is = tt
     by (Some ops) is = cold_on_hosts plan.layout ops (cold c seq ops is)
 
-all_distinct : (plan : Plan) → IsSound plan → (c seq : ℕ) → IsDistinct (script_at plan c seq)
+pub all_distinct : (plan : Plan) → IsSound plan → (c seq : ℕ) → IsDistinct (script_at plan c seq)
 all_distinct plan sound c seq = by (script_of plan c seq) refl
   where
     by : (o : Option (List Op)) → script_of plan c seq ≡ o → IsDistinct (unwrap_or o [])

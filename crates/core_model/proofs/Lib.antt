@@ -17,3 +17,12 @@ pub mod Stuck
 pub mod Bounded
 pub mod Ended
 pub mod Legal
+pub mod Cold
+pub mod Reached
+pub mod Stored
+pub mod Turns
+pub mod Driven
+pub mod Potentials
+pub mod SmallStamps
+pub mod SmallBounds
+pub mod Numbers

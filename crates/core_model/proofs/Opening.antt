@@ -22,7 +22,7 @@ first_client (items ∷ lists) zero = (length items, refl)
 first_client (items ∷ lists) (suc d) = first_client lists d
 
 -- each tuple has its first value
-first_value : (rows : List (TupleId × ℤ)) (t : TupleId) → fin.get (first_rows rows) t ≡ option_map first_seen (fin.find tuple_cmp t rows)
+pub first_value : (rows : List (TupleId × ℤ)) (t : TupleId) → fin.get (first_rows rows) t ≡ option_map first_seen (fin.find tuple_cmp t rows)
 first_value [] t = fin.get-empty tuple_cmp t
 first_value (row ∷ rows) t =
     fin.get-insert tuple_cmp_total (first_rows rows) row.0 (first_seen row.1) t

@@ -64,7 +64,7 @@ at_front : (done rest : List Actor) (actor : Actor) → slice_get (done ++ actor
 at_front [] rest actor = refl
 at_front (a ∷ done) rest actor = at_front done rest actor
 
-one_more : (plan : Plan) (done : List Actor) (actor : Actor) (s next : State) → state_of plan done ≡ Some s → step plan s actor ≡ Some next → state_of plan (done ++ actor ∷ []) ≡ Some next
+pub one_more : (plan : Plan) (done : List Actor) (actor : Actor) (s next : State) → state_of plan done ≡ Some s → step plan s actor ≡ Some next → state_of plan (done ++ actor ∷ []) ≡ Some next
 unfolding state_of
 one_more plan done actor s next run is = state_behind-append plan (opening plan) s next done (actor ∷ []) run (ap (option_and_then (λ z. state_behind plan z [])) is)
 

@@ -118,7 +118,7 @@ not_empty [] e = cc
 not_empty (op ∷ ops) e = omega arith
 
 -- the script of a present item has an operation
-some_op : (plan : Plan) (c : ℕ) (x : ClientState) → IsSound plan → HasNoLoss plan → 1 ≤ x.seq → x.seq ≤ length (items_of plan c) → 1 ≤ length (script_now plan c x)
+pub some_op : (plan : Plan) (c : ℕ) (x : ClientState) → IsSound plan → HasNoLoss plan → 1 ≤ x.seq → x.seq ≤ length (items_of plan c) → 1 ≤ length (script_now plan c x)
 some_op plan c x sound none one in_items = by (script_of plan c x.seq) refl (scripted (x.seq == 0) refl)
   where
     positive : (n : ℕ) → 1 ≤ n → (n == 0) ≡ true → ⊥

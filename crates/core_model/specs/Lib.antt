@@ -9,3 +9,7 @@ pub mod Laws
 pub mod Asking
 pub mod Bound
 pub mod Ends
+pub mod Rota
+pub mod Built
+pub mod Driven
+pub mod Room

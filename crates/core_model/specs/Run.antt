@@ -1,5 +1,5 @@
 -- Runs of the core: the opening of a session, and the state that a list of moves makes of it.
-use Rattle.std.specs.Prelude.{ℤ, List, [], ◌∷◌, map, length, Option, Some, option_and_then}
+use Rattle.std.specs.Prelude.{ℤ, List, [], ◌∷◌, map, length, Option, Some, option_and_then, unwrap_or}
 use Rattle.std.specs.FinMap as fin
 use Rattle.txn_model.specs.declared.op.TupleId.{TupleId}
 use Rattle.catalogue.specs.Plan.{Plan, PlainItem}
@@ -27,3 +27,7 @@ state_behind plan s (actor ∷ actors) = option_and_then (λ next. state_behind 
 -- the state that a trace makes of the opening
 unfoldable pub state_of : Plan → List Actor → Option State
 state_of plan trace = state_behind plan (opening plan) trace
+
+-- the state behind a trace; the opening where it is none
+abbrev pub state_now : Plan → List Actor → State
+state_now plan trace = unwrap_or (state_of plan trace) (opening plan)
