@@ -1,1 +1,7 @@
-pub mod RowLaws
+pub mod Answered
+pub mod Beside
+pub mod Placed
+pub mod Kept
+pub mod Compacted
+pub mod Running
+pub mod Ordered

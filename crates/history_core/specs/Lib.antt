@@ -1,3 +1,4 @@
 pub mod Reply
-pub mod Rows
+pub mod Entries
 pub mod Answers
+pub mod Scripts

@@ -1,43 +1,33 @@
 //! Histories.
 
-ghost use Rattle.std.specs.Prelude.{◌≡◌, ◌==◌, ◌&&◌, ◌≤◌, ◌+◌, ◌<◌, ◌↔◌, [], length, slice_get, IfOk, IsTrue, Some, None};
+ghost use Rattle.std.specs.Prelude.{◌≡◌, ◌==◌, ◌&&◌, ◌≤◌, ◌+◌, ◌<◌, ◌↔◌, [], length, map, take, slice_get, filter, position, IsSorted, IfOk, IsTrue, Some, None};
 ghost use Rattle.std.specs.List.{position_or_len};
-ghost use Rattle.std.specs.Option.{option_map};
+ghost use Rattle.std.specs.Option.{option_map, option_and_then};
 ghost use Rattle.std.specs.Ordering.{is_lt};
+ghost use Rattle.catalogue.specs.PlanOf.{plan_of};
+ghost use Rattle.catalogue.specs.Sound.{IsSound};
 ghost use Rattle.history_model.specs.History.{with_entry, entry_cmp};
-ghost use Rattle.history_core.specs.Answers.{reply_of, with_reply, answered_ones};
+ghost use Rattle.history_model.specs.Legal.{IsLegal};
+ghost use Rattle.history_core.specs.Answers.{is_of_item, reply_of, with_reply, answered_ones};
+ghost use Rattle.history_core.specs.Entries.{plain_entries};
+ghost use Rattle.history_core.specs.Scripts.{script_at};
 
+use crate::legal::are_legal;
 use crate::reply::{MOST_PAIRS, Reply};
+use catalogue::Session;
 use history_model::Entry;
 use std::alloc::Global;
 use std::marker::Model;
 use txn_model::{NoMemory, Pair, Pairs};
 
-/// An entry, and its reply where it is answered.
-#[derive(Clone, Copy, Debug)]
-struct Row {
-    entry: Entry,
-    reply: Option<Reply>,
-}
-
-impl Row {
-    ghost use Rattle.history_core.specs.Rows.{plain_row};
-
-    fn pairs(&self) -> Option<&[Pair]>
-        ensures { option_map (λ pairs. pairs.now) result ≡ (plain_row self.now).pairs }
-    {
-        match &self.reply {
-            Some(reply) => Some(reply.as_slice()),
-            None => None,
-        }
-    }
-}
-
 /// The entries of a run's transactions in stamp order, each with its pairs where it is answered. Its
 /// `spare` says how many more entries have room.
+///
+/// Replies stand beside the entries, so that a look-up reads the entries alone.
 #[derive(Debug, Drop)]
 pub struct History {
-    rows: Vec<Row>,
+    entries: Vec<Entry>,
+    replies: Vec<Option<Reply>>,
 }
 
 impl Model for History {
@@ -46,10 +36,12 @@ impl Model for History {
 
     ghost Value = { Listed HistoryEntry };
 
-    ghost use Rattle.std.specs.Prelude.{◌-◌, vec_len, vec_capacity};
-    ghost use Rattle.history_core.specs.Rows.{plain_rows};
+    ghost use Rattle.std.specs.Prelude.{◌-◌, min, vec_len, vec_capacity};
+    ghost use Rattle.history_core.specs.Entries.{AreKept, plain_entries};
 
-    ghost view = { λ a. record { items = plain_rows a.rows.items; spare = vec_capacity a.rows - vec_len a.rows } };
+    ghost view = { λ a. record { items = plain_entries a.entries.items a.replies.items; spare = min (vec_capacity a.entries - vec_len a.entries) (vec_capacity a.replies - vec_len a.replies) } };
+
+    ghost invariant = { λ a. AreKept a.entries.items a.replies.items };
 }
 
 impl History {
@@ -59,7 +51,8 @@ impl History {
         ensures room { IfOk result (λ history. most ≤ history.spare) }
     {
         Ok(History {
-            rows: Vec::with_capacity(alloc, most)?,
+            entries: Vec::with_capacity(alloc, most)?,
+            replies: Vec::with_capacity(alloc, most)?,
         })
     }
 
@@ -69,9 +62,20 @@ impl History {
         ensures items { self.new.items ≡ with_entry (record { entry = entry; pairs = None }) self.old.items }
         ensures spare { self.new.spare + 1 ≡ self.old.spare }
     {
-        let at = place_of(self.rows.as_slice(), &entry);
+        let at = place_of(self.entries.as_slice(), &entry);
         // There is room, so this takes no memory and doesn't fail.
-        let _ = self.rows.insert(at, Row { entry, reply: None });
+        let _ = self.entries.insert(at, entry);
+        let _ = self.replies.insert(at, None);
+    }
+
+    /// The place of the item's entry, counted from 0; None exactly where it has none.
+    pub fn find(&self, client: u8, seq: u32) -> Option<usize>
+        ensures place { result ≡ position (is_of_item client seq) self.now.items }
+        ensures entry { option_and_then (slice_get self.now.items) result ≡ slice_get (filter (is_of_item client seq) self.now.items) 0 }
+    {
+        self.entries
+            .iter()
+            .position(|entry| entry.client == client && entry.seq == seq)
     }
 
     /// Answers the entry of an item by the pairs of its reply. Nothing changes where the item has none.
@@ -80,11 +84,8 @@ impl History {
         ensures items { self.new.items ≡ with_reply client seq pairs.now.items self.old.items }
         ensures spare { self.new.spare ≡ self.old.spare }
     {
-        let at = item_place(self.rows.as_slice(), client, seq);
-        if at < self.rows.len() {
-            let entry = self.rows[at].entry;
-            let reply = Some(Reply::of(pairs.as_slice()));
-            self.rows[at] = Row { entry, reply };
+        if let Some(at) = self.find(client, seq) {
+            self.replies[at] = Some(Reply::of(pairs.as_slice()));
         }
     }
 
@@ -92,11 +93,9 @@ impl History {
     pub fn reply(&self, client: u8, seq: u32) -> Option<&[Pair]>
         ensures { option_map (λ pairs. pairs.now) result ≡ reply_of client seq self.now.items }
     {
-        let at = item_place(self.rows.as_slice(), client, seq);
-        if at < self.rows.len() {
-            self.rows[at].pairs()
-        } else {
-            None
+        match self.find(client, seq) {
+            Some(at) => Reply::pairs_of(&self.replies[at]),
+            None => None,
         }
     }
 
@@ -104,14 +103,14 @@ impl History {
     pub fn len(&self) -> usize
         ensures { result ≡ length self.now.items }
     {
-        self.rows.len()
+        self.entries.len()
     }
 
     /// Whether there are none.
     pub fn is_empty(&self) -> bool
         ensures { IsTrue result ↔ (self.now.items ≡ []) }
     {
-        self.rows.is_empty()
+        self.entries.is_empty()
     }
 
     /// The entry at a place of the history, counted from 0, and its pairs where it is answered.
@@ -119,8 +118,23 @@ impl History {
         requires { i < length self.now.items }
         ensures { slice_get self.now.items i ≡ Some (record { entry = result.0; pairs = option_map (λ pairs. pairs.now) result.1 }) }
     {
-        let row = &self.rows[i];
-        (row.entry, row.pairs())
+        (self.entries[i], Reply::pairs_of(&self.replies[i]))
+    }
+
+    /// The entries in stamp order.
+    pub fn entries(&self) -> &[Entry]
+        ensures { result.now ≡ map (λ e. e.entry) self.now.items }
+    {
+        self.entries.as_slice()
+    }
+
+    /// Whether the scripts of all entries, run one after another on the session's first values, give each
+    /// answered entry its pairs. An entry that is no transaction of the session has an empty script.
+    pub fn legal(&self, alloc: Global, session: &Session) -> Result<bool, NoMemory>
+        requires { IsSound (plan_of session.now) }
+        ensures { IfOk result (λ legal. IsTrue legal ↔ IsLegal (script_at (plan_of session.now)) (plan_of session.now).tuples self.now.items) }
+    {
+        are_legal(alloc, session, &self.entries, &self.replies)
     }
 
     /// Takes the unanswered entries out.
@@ -128,30 +142,33 @@ impl History {
         ensures items { self.new.items ≡ answered_ones self.old.items }
         ensures room { self.old.spare ≤ self.new.spare }
     {
-        self.rows.retain(|row| row.reply.is_some());
+        let kept = answered_first(&mut self.entries, &mut self.replies);
+        self.entries.truncate(kept);
+        self.replies.truncate(kept);
     }
 }
 
-/// The place before the first row whose entry is behind this one.
-fn place_of(rows: &[Row], entry: &Entry) -> usize
-    ensures { result ≡ position_or_len (λ row. is_lt (entry_cmp entry.now row.entry)) rows.now }
+/// The place before the first entry that is behind this one.
+fn place_of(entries: &[Entry], entry: &Entry) -> usize
+    requires { IsSorted entry_cmp entries.now }
+    ensures { result ≡ position_or_len (λ e. is_lt (entry_cmp entry.now e)) entries.now }
 {
-    for i in 0..rows.len() {
-        if entry.stands_before(&rows[i].entry) {
-            return i;
-        }
-    }
-    rows.len()
+    entries.partition_point(|other| !entry.stands_before(other))
 }
 
-/// The place of the item's row; the number of rows where it has none.
-fn item_place(rows: &[Row], client: u8, seq: u32) -> usize
-    ensures { result ≡ position_or_len (λ row. (row.entry.client == client) && (row.entry.seq == seq)) rows.now }
+/// Moves the answered entries to the front, with their replies and in their order. Returns how many they are.
+fn answered_first(entries: &mut [Entry], replies: &mut [Option<Reply>]) -> usize
+    requires { length entries.old ≡ length replies.old }
+    ensures bound { result ≤ length entries.old }
+    ensures front { plain_entries (take result entries.new) (take result replies.new) ≡ answered_ones (plain_entries entries.old replies.old) }
 {
-    for i in 0..rows.len() {
-        if rows[i].entry.client == client && rows[i].entry.seq == seq {
-            return i;
+    let mut kept = 0;
+    for i in 0..entries.len() {
+        if replies[i].is_some() {
+            entries[kept] = entries[i];
+            replies[kept] = replies[i];
+            kept += 1;
         }
     }
-    rows.len()
+    kept
 }

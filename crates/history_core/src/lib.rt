@@ -6,6 +6,7 @@
 
 mod history;
 mod laws;
+mod legal;
 mod reply;
 
 pub use history::History;

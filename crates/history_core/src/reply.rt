@@ -1,6 +1,7 @@
 //! Replies that are kept in place, so that an answer takes no memory.
 
 ghost use Rattle.std.specs.Prelude.{◌≡◌, ◌≤◌, length};
+ghost use Rattle.std.specs.Option.{option_map};
 ghost use Rattle.history_core.specs.declared.reply.TheConstants.{MOST_PAIRS};
 
 use txn_model::Pair;
@@ -37,5 +38,15 @@ impl Reply {
         ensures { result.now ≡ pairs_of self.now }
     {
         &self.room[..self.len]
+    }
+
+    /// The pairs of a reply, where there is one.
+    pub fn pairs_of(reply: &Option<Reply>) -> Option<&[Pair]>
+        ensures { option_map (λ pairs. pairs.now) result ≡ option_map pairs_of reply.now }
+    {
+        match reply {
+            Some(reply) => Some(reply.as_slice()),
+            None => None,
+        }
     }
 }

@@ -1,10 +1,17 @@
-ghost use Rattle.std.specs.Prelude.{◌≤◌, length, IfOk};
+ghost use Rattle.std.specs.Prelude.{◌≡◌, ◌≤◌, ◌+◌, [], ◌∷◌, length, IfOk, OnOk};
+ghost use Rattle.catalogue.specs.Items.{plain_item};
+ghost use Rattle.catalogue.specs.Plan.{Run};
+ghost use Rattle.catalogue.specs.PlanOf.{plan_of};
+ghost use Rattle.catalogue.specs.Sound.{IsSound};
+ghost use Rattle.history_core.specs.declared.tests.TheConstants.{ADD_ONE};
 
 use super::*;
+use catalogue::{Actors, Clients, Item, Session};
 use history_model::Entry;
+use stage_layout::{Layout, Shape};
 use std::alloc::Global;
 use std::test::Fail;
-use txn_model::{NoMemory, Pair, Pairs, Stamp};
+use txn_model::{Act, Needs, NoMemory, Op, Pair, Pairs, Script, Stamp, TupleId, TupleMap};
 
 fn entry(number: u64, sub: u32, client: u8, seq: u32) -> Entry {
     Entry {
@@ -56,10 +63,83 @@ fn entries_stand_in_stamp_order_and_are_answered_by_item(rt: HostRuntime) -> Res
     assert_eq!(rt; history.reply(0, 1), Some([SECOND, FIRST].as_slice()));
     assert_eq!(rt; history.reply(2, 1), None);
     assert_eq!(rt; history.reply(2, 2), None);
+    assert_eq!(rt; history.find(0, 1), Some(3));
+    assert_eq!(rt; history.find(2, 2), None);
+    assert_eq!(rt; history.entries().first().copied(), Some(entry(0, 3, 1, 1)));
 
     history.drop_unanswered();
     let rows = summary(alloc, &history)?;
     let want = [(1, 2, Some(1)), (0, 1, Some(2))];
     assert_eq!(rt; rows.as_slice(), want.as_slice());
+    Ok(())
+}
+
+const ADD_ONE: Op = Op {
+    tuple: TupleId(0),
+    act: Act::Add { base: 1 },
+    needs: Needs::Zero,
+};
+
+const SHAPE: Shape = Shape {
+    stages: 1,
+    arrays: 1,
+    cells: 1,
+    split: 0,
+    hosts: 1,
+};
+
+fn adding(alloc: Global) -> Result<Item, NoMemory>
+    ensures { IfOk result (λ item. plain_item item ≡ Run (ADD_ONE ∷ [])) }
+{
+    Ok(Item::Run(Script::of(vec![in alloc; ADD_ONE]?)))
+}
+
+/// One client that adds one to tuple 0, which holds 5, three times.
+fn session(alloc: Global) -> Result<Session, NoMemory>
+    ensures { IfOk result (λ session. IsSound (plan_of session)) }
+{
+    let items = vec![in alloc; adding(alloc)?, adding(alloc)?, adding(alloc)?]?;
+    Ok(Session {
+        shape: SHAPE,
+        tuples: TupleMap::of(alloc, &[(TupleId(0), 5)])?,
+        layout: Layout::of(alloc, Vec::new(alloc))?,
+        tries: 1,
+        clients: Clients::of(vec![in alloc; items]?),
+        schedule: Actors::of(Vec::new(alloc)),
+    })
+}
+
+/// Puts the client's item in, answered where it is said what it found.
+fn put(alloc: Global, history: &mut History, seq: u32, found: Option<i64>) -> Result<(), NoMemory>
+    requires { 1 ≤ history.old.spare }
+    ensures { OnOk result (history.new.spare + 1 ≡ history.old.spare) }
+{
+    history.insert(entry(0, seq, 0, seq));
+    if let Some(was) = found {
+        let now = was.wrapping_add(1);
+        history.answer(0, seq, &pairs(alloc, &[Pair { was, now }])?);
+    }
+    Ok(())
+}
+
+#[test]
+fn histories_are_legal_where_a_serial_run_gives_their_pairs(rt: HostRuntime) -> Result<(), Fail> {
+    let alloc = rt.alloc();
+    let session = session(alloc)?;
+    let cases = [
+        ((None, None, None), true),
+        ((Some(5), Some(6), Some(7)), true),
+        ((Some(5), None, Some(7)), true),
+        ((Some(5), None, Some(6)), false),
+        ((Some(6), None, None), false),
+        ((None, None, Some(5)), false),
+    ];
+    for ((first, second, third), legal) in cases {
+        let mut history = History::fresh(alloc, 3)?;
+        put(alloc, &mut history, 1, first)?;
+        put(alloc, &mut history, 2, second)?;
+        put(alloc, &mut history, 3, third)?;
+        assert_eq!(rt; history.legal(alloc, &session)?, legal);
+    }
     Ok(())
 }

@@ -1,13 +1,19 @@
-use Rattle.std.proofs.Common.{length, arith, ap, refl, Some, ◌∙◌}
-use Rattle.history_core.proofs.RowLaws.{answered_at, kept_all}
+use Rattle.std.proofs.Common.{sym, ap, ◌∙◌, arith}
+use Rattle.history_core.proofs.Kept.{length-kept, within, answered, unanswered}
 use Rattle.history_core.proofs.history.History.answer.Goals as goal
 
-pub returns-then-at-len-clause-items : goal.returns-then-at-len-clause-items
-returns-then-at-len-clause-items c =
-    answered_at c.args.client c.args.seq c.self.inside.rows.items c.as_slice.result.now c.as_slice.ensures.value c.item_place-at.result c.item_place-at.ensures _ (ap (λ h. h.items) c.self.view_is)
-    (omega (arith, c.if-at-len.true, c.len.ensures, c.as_slice.ensures.len, ap length c.as_slice.ensures.value)) c.args.pairs.now.items _ c.index.result.now c.index.ensures refl (ap Some (c.of.ensures ∙ c.as_slice-then-at-len.ensures.items))
+pub index_mut-requires : goal.index_mut-requires
+index_mut-requires c =
+    let es = c.self.inside.entries.items in
+    let rs = c.self.inside.replies.items in
+    let view = ap (λ h. h.items) c.self.view_is in
+    omega (arith, within es rs c.self.invariant.same _ view c.args.client c.args.seq c.in-Some.at (sym c.find.ensures.place ∙ c.in-Some.is), length-kept es rs c.self.invariant.same _ view, c.self.invariant.same, c.self.inside.replies.ok.0)
 
-pub returns-else-at-len-clause-items : goal.returns-else-at-len-clause-items
-returns-else-at-len-clause-items c =
-    kept_all c.args.client c.args.seq c.self.inside.rows.items c.as_slice.result.now c.as_slice.ensures.value c.item_place-at.result c.item_place-at.ensures _ (ap (λ h. h.items) c.self.view_is)
-    (omega (arith, c.if-at-len.false, c.len.ensures, c.as_slice.ensures.len, ap length c.as_slice.ensures.value)) c.args.pairs.now.items
+pub returns-in-Some-clause-items : goal.returns-in-Some-clause-items
+returns-in-Some-clause-items c =
+    answered c.self.inside.entries.items c.self.inside.replies.items c.self.invariant.same _ (ap (λ h. h.items) c.self.view_is) c.args.client c.args.seq c.in-Some.at (sym c.find.ensures.place ∙ c.in-Some.is)
+    c.of.result c.args.pairs.now.items (c.of.ensures ∙ c.as_slice.ensures.items)
+
+pub returns-in_default-clause-items : goal.returns-in_default-clause-items
+returns-in_default-clause-items c =
+    unanswered c.self.inside.entries.items c.self.inside.replies.items c.self.invariant.same _ (ap (λ h. h.items) c.self.view_is) c.args.client c.args.seq (sym c.find.ensures.place ∙ c.in_default.is) c.args.pairs.now.items
