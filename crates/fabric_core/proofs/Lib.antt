@@ -1,0 +1,16 @@
+pub mod Asks
+pub mod Clients
+pub mod Counts
+pub mod Decides
+pub mod Entries
+pub mod FewLocks
+pub mod Held
+pub mod Installs
+pub mod Openings
+pub mod Phases
+pub mod Present
+pub mod Releases
+pub mod Shown
+pub mod Takes
+pub mod Turns
+pub mod Worlds

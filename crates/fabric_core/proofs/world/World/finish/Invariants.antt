@@ -1,0 +1,11 @@
+use Rattle.core_model.specs.Bound.{moves_left}
+use Rattle.fabric_core.specs.Running.{state_in}
+use Rattle.fabric_core.proofs.Takes.{IsDriving}
+use Rattle.fabric_core.proofs.world.World.finish.Given as goal
+
+-- what is left of the run makes the whole
+abbrev pub invariant-rounds : goal.invariant-rounds
+invariant-rounds g l = IsDriving l.fn.self l.self
+
+abbrev pub decreases-rounds : goal.decreases-rounds
+decreases-rounds g l = moves_left l.self.plan (state_in l.self)

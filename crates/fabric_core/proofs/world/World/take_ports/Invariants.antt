@@ -1,0 +1,13 @@
+use Rattle.std.proofs.Common.{◌≡◌, ◌-◌, length, map}
+use Rattle.std.specs.List.{range_with_len}
+use Rattle.catalogue.specs.declared.actor.Actor.TheVariants.{Port}
+use Rattle.core_model.specs.Rota.{numbers_below}
+use Rattle.fabric_core.proofs.Takes.{IsTaking}
+use Rattle.fabric_core.proofs.world.World.take_ports.Given as goal
+
+-- the ports so far and those that are left make the whole
+abbrev pub invariant-loop-client : goal.invariant-loop-client
+invariant-loop-client g l = record {
+  end : l.client-end ≡ length l.fn.self.plan.clients;
+  taking : IsTaking (map Port (range_with_len l.client (l.client-end - l.client))) (map Port (numbers_below (length l.fn.self.plan.clients))) l.fn.self l.self;
+}

@@ -1,0 +1,7 @@
+pub mod Held
+pub mod ItemEnds
+pub mod Kept
+pub mod Running
+pub mod Standing
+pub mod Turns
+pub mod Unnamed

@@ -1,0 +1,298 @@
+//! Worlds.
+
+ghost use Rattle.std.specs.Prelude.{◌≡◌, ◌↔◌, ◌<◌, ◌≤◌, [], ◌∷◌, true, false, length, map, reverse, All, IfOk, IfErr, IsSome, IsTrue, Some};
+ghost use Rattle.std.specs.FinMap.{get};
+ghost use Rattle.std.specs.List.{list_all};
+ghost use Rattle.catalogue.specs.Plan.{item_of};
+ghost use Rattle.catalogue.specs.PlanOf.{plan_of};
+ghost use Rattle.catalogue.specs.Sound.{IsSound, IsActor};
+ghost use Rattle.catalogue.specs.declared.actor.Actor.TheVariants.{Client, Port, Stage};
+ghost use Rattle.core_model.specs.Bound.{move_bound};
+ghost use Rattle.core_model.specs.Built.{has_cold_items};
+ghost use Rattle.core_model.specs.Laws.{IsFinished, IsReached};
+ghost use Rattle.core_model.specs.Rota.{driven_from, is_finished, numbers_below, rota};
+ghost use Rattle.core_model.specs.Run.{opening, state_of};
+ghost use Rattle.core_model.specs.State.{seen_at, client_at};
+ghost use Rattle.fabric_core.specs.ItemEnds as ends;
+ghost use Rattle.fabric_core.specs.Running.{state_in, taken, with_moves};
+ghost use Rattle.fabric_core.specs.Standing.{StandsFor};
+ghost use Rattle.fabric_core.specs.Turns.{IsTurn};
+
+use crate::built::has_cold_items;
+use crate::core_state::CoreState;
+use crate::ends::{ItemEnd, loss_end, script_end};
+use crate::name::RunName;
+use crate::room::move_bound;
+use crate::turn::{BeginFault, End, Turn};
+use catalogue::{Actor, Actors, Item, Session};
+use client_phase::ClientState;
+use core_model::{Phase, Refusal};
+use history_core::History;
+use port_io::LogRack;
+use std::alloc::Global;
+use std::marker::{Model, PhantomData};
+use txn_model::{Items, NoMemory, TupleId};
+
+/// A run that has begun: its session, and the state that the moves so far have made.
+///
+/// The name is a part of the type, so that a world that comes back from elsewhere is still a run of the
+/// same session. The logs are kept for the caller, and not used yet.
+#[derive(Drop)]
+pub struct World<L: LogRack, N: RunName> {
+    session: Session,
+    core: CoreState,
+    trace: Actors,
+    rack: L,
+    of: PhantomData<N>,
+}
+
+impl<L: LogRack, N: RunName> Model for World<L, N> {
+    ghost use Rattle.catalogue.specs.PlanOf.{plan_of};
+    ghost use Rattle.fabric_core.specs.Kept.{IsKept};
+    ghost use Rattle.fabric_core.specs.Running.{Running};
+    ghost use Rattle.std.specs.Coded.{codes};
+    ghost use Rattle.txn_model.specs.Tuples.{tuples_code};
+
+    ghost Value = { Running L };
+
+    ghost coded = { Prim.hlevel (codes, tuples_code) };
+
+    ghost view = { λ a. record { plan = plan_of a.session; trace = a.trace.items; rack = a.rack } };
+
+    ghost invariant = { λ a. IsKept N.session (plan_of a.session) a.core a.trace };
+}
+
+impl<L: LogRack, N: RunName> World<L, N> {
+    /// Takes all room that the run of a session needs. `NotBuilt` comes exactly where an item is a loss of
+    /// the switch or a transaction with a tuple in the switch. After a fault the logs are handed back.
+    pub fn begin(alloc: Global, session: Session, rack: L) -> Result<World<L, N>, (L, BeginFault)>
+        requires sound { IsSound (plan_of session) }
+        requires named { plan_of session ≡ N.session }
+        ensures begun { IfOk result (λ world. world ≡ record { plan = plan_of session; trace = []; rack = rack }) }
+        ensures built { IfOk result (λ _. has_cold_items (plan_of session) ≡ true) }
+        ensures not_built { IfErr result (λ err. err.1 ≡ BeginFault.NotBuilt → has_cold_items (plan_of session) ≡ false) }
+        ensures no_memory { IfErr result (λ err. err.1 ≡ BeginFault.NoMemory → has_cold_items (plan_of session) ≡ true) }
+        ensures rack { IfErr result (λ err. err.0 ≡ rack) }
+    {
+        if !has_cold_items(&session) {
+            return Err((rack, BeginFault::NotBuilt));
+        }
+        match room_of(alloc, &session) {
+            Ok((core, trace)) => Ok(World {
+                session,
+                core,
+                trace,
+                rack,
+                of: PhantomData,
+            }),
+            Err(NoMemory) => Err((rack, BeginFault::NoMemory)),
+        }
+    }
+
+    /// Lets an actor of the session take its turn.
+    pub fn turn(&mut self, actor: Actor) -> Turn
+        requires { IsActor self.old.plan actor }
+        ensures { IsTurn self.old self.new actor result }
+    {
+        match actor {
+            Actor::Client(client) => self.move_client(client),
+            // These are idle as long as no transaction needs the switch.
+            Actor::Port(_) | Actor::Stage(_) | Actor::Recover => Turn::Idle,
+        }
+    }
+
+    /// Lets a client take its turn.
+    fn move_client(&mut self, client: u8) -> Turn
+        requires { client < length self.old.plan.clients }
+        ensures { IsTurn self.old self.new (Client client) result }
+    {
+        let at = self.trace.len() as u32;
+        if !self.core.step(&self.session, client, at) {
+            return Turn::Idle;
+        }
+        self.trace.push(Actor::Client(client));
+        Turn::Moved
+    }
+
+    /// Lets the actors take their turns in order, and then the rota again and again, until no client has
+    /// anything left to do.
+    pub fn run(&mut self, actors: &[Actor]) -> End
+        requires { All (IsActor self.old.plan) actors.now }
+        ensures moves { self.new ≡ with_moves self.old (driven_from self.old.plan (state_in self.old) actors.now) }
+        ensures finished { IsFinished (state_in self.new) }
+    {
+        // Opened for what is true of each world.
+        let _ = &self.session;
+        self.take_all(actors);
+        self.finish()
+    }
+
+    /// Lets the actors of the rota take their turns again and again, until no client has anything left to
+    /// do.
+    pub fn finish(&mut self) -> End
+        ensures moves { self.new ≡ with_moves self.old (driven_from self.old.plan (state_in self.old) []) }
+        ensures finished { IsFinished (state_in self.new) }
+    {
+        // Opened for what is true of each world.
+        let _ = &self.session;
+        'rounds: while !self.finished() {
+            self.take_rota();
+        }
+        End::Finished
+    }
+
+    /// Lets all actors take their turns once: recovery, the clients, their ports, and the stages from the
+    /// last to the first.
+    fn take_rota(&mut self)
+        ensures { self.new ≡ taken self.old (rota self.old.plan) }
+    {
+        // Opened for what is true of each world.
+        let _ = &self.session;
+        self.take(Actor::Recover);
+        self.take_clients();
+        self.take_ports();
+        self.take_stages();
+    }
+
+    fn take_clients(&mut self)
+        ensures { self.new ≡ taken self.old (map Client (numbers_below (length self.old.plan.clients))) }
+    {
+        for client in 0..self.session.clients() {
+            self.take(Actor::Client(client));
+        }
+    }
+
+    fn take_ports(&mut self)
+        ensures { self.new ≡ taken self.old (map Port (numbers_below (length self.old.plan.clients))) }
+    {
+        for client in 0..self.session.clients() {
+            self.take(Actor::Port(client));
+        }
+    }
+
+    fn take_stages(&mut self)
+        ensures { self.new ≡ taken self.old (map Stage (reverse (numbers_below self.old.plan.shape.stages))) }
+    {
+        for stage in (0..self.session.shape.stages).rev() {
+            self.take(Actor::Stage(stage));
+        }
+    }
+
+    fn take_all(&mut self, actors: &[Actor])
+        requires { All (IsActor self.old.plan) actors.now }
+        ensures { self.new ≡ taken self.old actors.now }
+    {
+        // Opened for what is true of each world.
+        let _ = &self.session;
+        for actor in actors {
+            self.take(*actor);
+        }
+    }
+
+    /// Lets an actor take its turn, unless no client has anything left to do.
+    fn take(&mut self, actor: Actor)
+        requires { IsActor self.old.plan actor }
+        ensures { self.new ≡ taken self.old (actor ∷ []) }
+    {
+        if !self.finished() {
+            let _ = self.turn(actor);
+        }
+    }
+
+    /// Whether no client has anything left to do.
+    pub fn finished(&self) -> bool
+        ensures { IsTrue result ↔ IsFinished (state_in self.now) }
+    {
+        have_finished(self.core.clients.as_slice())
+    }
+
+    /// What is run.
+    pub fn session(&self) -> &Session
+        ensures plan { plan_of result.now ≡ self.now.plan }
+        ensures named { self.now.plan ≡ N.session }
+        ensures sound { IsSound self.now.plan }
+        ensures built { has_cold_items self.now.plan ≡ true }
+    {
+        &self.session
+    }
+
+    /// Who moved so far, in order. The state is what the core makes of these moves.
+    pub fn trace(&self) -> &[Actor]
+        ensures trace { result.now ≡ self.now.trace }
+        ensures run { state_of self.now.plan self.now.trace ≡ Some (state_in self.now) }
+        ensures reached { IsReached self.now.plan (state_in self.now) }
+    {
+        self.trace.as_slice()
+    }
+
+    /// The entries so far, in stamp order.
+    pub fn history(&self) -> &History
+        ensures { result.now.items ≡ (state_in self.now).history }
+    {
+        &self.core.history
+    }
+
+    /// The locks that were refused so far, in order.
+    pub fn refusals(&self) -> &[Refusal]
+        ensures { result.now ≡ (state_in self.now).refusals }
+    {
+        self.core.refusals.as_slice()
+    }
+
+    /// How the client's item with this number has ended; the number is counted from 1.
+    pub fn item_end(&self, client: u8, seq: u32) -> ItemEnd
+        requires { IsSome (item_of self.now.plan client seq) }
+        ensures { result ≡ ends.item_end self.now.plan (state_in self.now) client seq }
+    {
+        let present = self.core.clients[client as usize].seq;
+        match self.session.item(client, seq) {
+            Some(Item::Run(_)) => script_end(&self.core.history, client, seq, present),
+            Some(Item::Lose) => loss_end(seq, present),
+            None => ItemEnd::Pending,
+        }
+    }
+
+    /// The value that the tuple has now.
+    pub fn tuple_now(&self, tuple: TupleId) -> i64
+        requires { IsSome (get self.now.plan.tuples tuple) }
+        ensures { result ≡ (seen_at (state_in self.now).store tuple).value }
+    {
+        self.core.store.read(tuple).value
+    }
+
+    /// What the client is about to do.
+    pub fn phase(&self, client: u8) -> Phase
+        requires { client < length self.now.plan.clients }
+        ensures { result ≡ (client_at (state_in self.now) client).phase }
+    {
+        self.core.clients[client as usize].phase
+    }
+
+    /// The logs.
+    pub fn into_rack(self) -> L
+        ensures { result ≡ self.rack }
+    {
+        self.rack
+    }
+}
+
+/// The opening of a session and an empty trace, with room for all that may come.
+fn room_of(alloc: Global, session: &Session) -> Result<(CoreState, Actors), NoMemory>
+    requires { IsSound (plan_of session.now) }
+    ensures core { IfOk result (λ room. StandsFor (plan_of session.now) (opening (plan_of session.now)) room.0) }
+    ensures trace { IfOk result (λ room. room.1.items ≡ []) }
+    ensures space { IfOk result (λ room. move_bound (plan_of session.now) ≤ room.1.spare) }
+{
+    let core = CoreState::opening(alloc, session)?;
+    let trace = Vec::with_capacity(alloc, move_bound(session) as usize)?;
+    Ok((core, Items::of(trace)))
+}
+
+/// Whether none of the clients has anything left to do.
+fn have_finished(clients: &[ClientState]) -> bool
+    ensures { result ≡ list_all (λ client. is_finished client.phase) clients.now }
+{
+    clients
+        .iter()
+        .all(|client| matches!(client.phase, Phase::Finished))
+}
