@@ -27,14 +27,14 @@ def content(path):
 def stdin_of(case):
     maker = case / "stdin.py"
     if maker.is_file():
-        return subprocess.run([sys.executable, str(maker)], stdout=subprocess.PIPE, check=True).stdout
+        return subprocess.run([sys.executable, "-B", str(maker)], stdout=subprocess.PIPE, check=True).stdout
     return content(case / "stdin")
 
 
 def stdout_of(case, stdin):
     maker = case / "stdout.py"
     if maker.is_file():
-        return subprocess.run([sys.executable, str(maker)], input=stdin, stdout=subprocess.PIPE, check=True).stdout
+        return subprocess.run([sys.executable, "-B", str(maker)], input=stdin, stdout=subprocess.PIPE, check=True).stdout
     return content(case / "stdout")
 
 

@@ -1,6 +1,7 @@
-pub mod FirstRunLaws
-pub mod Rest
 pub mod Words
 pub mod Statuses
-pub mod BuiltLaws
 pub mod Complete
+pub mod Placed
+pub mod DrivenRun
+pub mod Claims
+pub mod Explained

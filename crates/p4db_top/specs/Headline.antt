@@ -1,18 +1,21 @@
 -- The headline, and what each other answer of the top call is owed to.
-use Rattle.std.specs.Prelude.{◌≡◌, ◌⊎◌, ℕ, true, false, List, [], ◌∷◌, codes, Option, Ok, Err}
+use Rattle.std.specs.Prelude.{◌≡◌, ◌⊎◌, ℕ, true, false, List, [], ◌∷◌, codes, Option, Some, Ok, Err}
 use Rattle.std.specs.Io.KnownBytes.{Appends}
 use Rattle.catalogue.specs.Plan.{Plan}
+use Rattle.catalogue.specs.declared.actor.Actor.{Actor}
+use Rattle.core_model.specs.Built.{has_cold_items}
+use Rattle.core_model.specs.Rota.{driven}
+use Rattle.core_model.specs.Run.{state_of, state_now}
+use Rattle.core_model.specs.State.{State}
 use Rattle.port_io.specs.ReadAll.{TakesAll, TakesWithin, TakesBeyond}
 use Rattle.port_io.specs.WriteAll.{AppendsFront}
 use Rattle.report_text.specs.ReportText.{report}
+use Rattle.report_text.specs.RunReport.{run_report}
 use Rattle.session_text.specs.SessionOf.{session_of}
 use Rattle.session_text.specs.declared.fault.SessionFault.{SessionFault}
-use Rattle.p4db_top.specs.Built.{is_built, scripts_of_first}
 use Rattle.p4db_top.specs.declared.note.Note.{Note}
 use Rattle.p4db_top.specs.declared.note.Note.TheVariants.{Done, Usage, ReadFault, InputTooLong, WriteFault, Session, NotBuilt, NoMemory}
-use Rattle.p4db_top.specs.FirstRun.{first_run, script_at, names_from}
-use Rattle.p4db_top.specs.Ran.{Ran, report_of}
-use Rattle.p4db_top.specs.Serial.{IsSerial, IsOnceEach}
+use Rattle.p4db_top.specs.Serial.{IsSerial, IsOnceEach, HaveCauses}
 
 -- the longest input that is read, in bytes
 abbrev pub most_input : ℕ
@@ -22,30 +25,40 @@ most_input = 16777216
 abbrev pub IsRun : List (List ℕ) → Type 0
 IsRun words = words ≡ codes "run" ∷ []
 
--- the source was read to its end, and all that was left in it is the text of this session, which is one that is run
-pub record Reads (left rest : Option (List ℕ)) (session : Plan) : Type 0 where
+-- the source was read to its end, and all that was left in it is the text of this session
+pub record IsRead (left rest : Option (List ℕ)) (session : Plan) : Type 0 where
   pub bytes : List ℕ
   pub taken : TakesAll most_input left rest bytes
   pub is : session_of bytes ≡ Ok session
-  pub built : is_built session ≡ true
 
--- the run of a session
-abbrev pub run_of : Plan → Ran
-run_of session = first_run session.tuples (scripts_of_first session)
+-- a session was read, and it is one that is run: all its items are transactions on hosts
+pub record Reads (left rest : Option (List ℕ)) (session : Plan) : Type 0 where
+  pub read : IsRead left rest session
+  pub built : has_cold_items session ≡ true
 
--- the whole output for a session
+-- the whole output for a session: the report of the state that its driven trace makes
 abbrev pub output_of : Plan → List ℕ
-output_of session = report (report_of (run_of session))
+output_of session = report (run_report session (state_now session (driven session)) (driven session))
 
--- What stands behind status 0: which session was read, what was printed of its run, and that the run's transactions,
--- each once and each client's in its order, sorted by printed stamp, are a serial run that gives exactly the printed
--- replies and final tuples.
+-- What stands behind status 0.
 pub record Headline (left rest before after : Option (List ℕ)) : Type 0 where
   pub session : Plan
+  pub trace : List Actor
+  pub state : State
+  -- all that was left in the source is the text of this session
   pub reads : Reads left rest session
-  pub printed : Appends before after (output_of session)
-  pub serial : IsSerial (script_at (scripts_of_first session)) session.tuples (run_of session)
-  pub once_each : IsOnceEach (names_from 1 (scripts_of_first session)) (run_of session)
+  -- those moved that can when the schedule's actors are taken in order, and then the rota again and again
+  pub driven : trace ≡ driven session
+  -- these moves of the core make this state of the session's opening
+  pub run : state_of session trace ≡ Some state
+  -- exactly the report of that was written
+  pub printed : Appends before after (report (run_report session state trace))
+  -- there is one serial order that gives all that was printed
+  pub serial : IsSerial session state
+  -- each item of the session ended, once, and each client's in its order
+  pub once_each : IsOnceEach session state
+  -- no lock was refused, and no transaction aborted, without cause
+  pub aborts_have_causes : HaveCauses session trace state
 
 -- all that was left was read, and it is refused as the text of a session, for this cause
 pub record Refuses (left rest : Option (List ℕ)) (fault : SessionFault) : Type 0 where
@@ -53,13 +66,11 @@ pub record Refuses (left rest : Option (List ℕ)) (fault : SessionFault) : Type
   pub taken : TakesAll most_input left rest bytes
   pub is : session_of bytes ≡ Err fault
 
--- all that was left was read, and it is the text of a session that isn't run yet
+-- a session was read, and it is one that isn't run yet
 pub record IsNotBuilt (left rest : Option (List ℕ)) : Type 0 where
-  pub bytes : List ℕ
-  pub taken : TakesAll most_input left rest bytes
   pub session : Plan
-  pub is : session_of bytes ≡ Ok session
-  pub not_built : is_built session ≡ false
+  pub read : IsRead left rest session
+  pub not_built : has_cold_items session ≡ false
 
 -- a session was read, and a front of its output was written
 pub record WritesFront (left rest before after : Option (List ℕ)) : Type 0 where
@@ -72,8 +83,8 @@ abbrev pub StopsReading : Note → (left rest : Option (List ℕ)) → Type 0
 StopsReading ReadFault left rest = TakesWithin most_input left rest
 StopsReading InputTooLong left rest = TakesBeyond most_input left rest
 StopsReading (Session fault) left rest = Refuses left rest fault
-StopsReading NotBuilt left rest = IsNotBuilt left rest
 StopsReading NoMemory left rest = TakesWithin most_input left rest
+StopsReading NotBuilt left rest = ⊥
 StopsReading Done left rest = ⊥
 StopsReading Usage left rest = ⊥
 StopsReading WriteFault left rest = ⊥

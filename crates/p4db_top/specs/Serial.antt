@@ -1,42 +1,55 @@
--- What is claimed of the order of a finished run's transactions.
-use Rattle.std.specs.Prelude.{◌≡◌, ℕ, List, [], ◌∷◌, map, filter, Some, ◌==◌, IsPermutation}
-use Rattle.history_model.specs.History.{History, AllAnswered}
-use Rattle.history_model.specs.InOrder.{HasEachOnce}
-use Rattle.history_model.specs.Legal.{scripts_of, IsLegal}
-use Rattle.report_text.specs.Report.{PlainItem, PlainEnd, Committed, Aborted, Lost}
-use Rattle.txn_model.specs.Serial.{serial_run}
-use Rattle.txn_model.specs.Tuples.{Tuples}
+-- What is claimed of a finished run: one serial order, each item once, and true aborts.
+use Rattle.std.specs.Prelude.{◌≡◌, ℕ, true, false, List, map, length, Some, IsSome}
+use Rattle.std.specs.List.{flat_map, range_with_len, AllByRecursion}
 use Rattle.txn_model.specs.declared.op.Op.{Op}
-use Rattle.p4db_top.specs.Ran.{Ran}
+use Rattle.catalogue.specs.Plan.{Plan, items_of, item_of, script_of, kind_of}
+use Rattle.catalogue.specs.declared.actor.Actor.{Actor}
+use Rattle.catalogue.specs.declared.kind.Kind.TheVariants.{Hot}
+use Rattle.history_model.specs.InOrder.{seqs_of}
+use Rattle.core_model.specs.Asking.{IsTrue}
+use Rattle.core_model.specs.Ends.{has_entry, refused_times, IsEnded}
+use Rattle.core_model.specs.Laws.{HasLegalHistory, HasSerialValues, IsFinished, IsAscending}
+use Rattle.core_model.specs.Rota.{numbers_below}
+use Rattle.core_model.specs.State.{State}
+use Rattle.report_text.specs.Report.{EndedItem}
+use Rattle.report_text.specs.RunReport.{items_told}
 
--- the history is legal and answered whole, and the final tuples are the last map of its serial run
-pub record IsSerial (script_at : ℕ → ℕ → List Op) (first : Tuples) (r : Ran) : Type 0 where
-  pub legal : IsLegal script_at first r.history
-  pub answered : AllAnswered r.history
-  pub final : r.tuples ≡ (serial_run (scripts_of script_at r.history) first).after
+-- The history is in stamp order and answered; running its scripts one after another in that order gives exactly its replies,
+-- and leaves exactly the final values.
+pub record IsSerial (session : Plan) (s : State) : Type 0 where
+  pub history : HasLegalHistory session s
+  pub values : HasSerialValues session s
 
--- the entry that an item's line tells of, before others
-abbrev pub told_before : PlainItem → PlainEnd → History → History
-told_before item (Committed kind stamp pairs) others = record { entry = record { stamp = stamp; client = item.client; seq = item.seq }; pairs = Some pairs } ∷ others
-told_before item (Aborted tuple holder at) others = others
-told_before item Lost others = others
+-- the items of a session, each as its client and its number, by client, then by number from 1
+abbrev pub item_names : Plan → List (ℕ × ℕ)
+item_names session = flat_map (λ client. map (λ seq. (client, seq)) (range_with_len 1 (length (items_of session client)))) (numbers_below (length session.clients))
 
--- the entries that the committed items' lines tell of
-abbrev pub told_entries : List PlainItem → History
-told_entries [] = []
-told_entries (item ∷ items) = told_before item item.end (told_entries items)
+abbrev pub name_of : EndedItem → ℕ × ℕ
+name_of item = (item.client, item.seq)
 
--- the numbers of a client's committed items, in its order
-abbrev pub committed_seqs : List PlainItem → ℕ → List ℕ
-committed_seqs items client = map (λ e. e.entry.seq) (filter (λ e. e.entry.client == client) (told_entries items))
+-- Each item of the session has ended, in one way, once.
+pub record IsOnceEach (session : Plan) (s : State) : Type 0 where
+  -- no client has anything left to do
+  pub finished : IsFinished s
+  -- each item is committed, and so has an entry, or aborted: all its tries were refused, and it has none
+  pub ended : (client seq : ℕ) → IsSome (item_of session client seq) → IsEnded session s client seq
+  -- the report has one line for each item, in order
+  pub lines : map name_of (items_told session s) ≡ item_names session
+  -- each entry is that of a transaction of the session
+  pub entries : AllByRecursion (λ e. IsSome (script_of session e.entry.client e.entry.seq)) s.history
+  -- each client's entries stand in its own order, each once
+  pub in_order : (client : ℕ) → IsAscending (seqs_of client s.history)
 
--- an item of a client, by its number
-abbrev pub ItemName : Type 0
-ItemName = ℕ × ℕ
+-- the item has no entry
+pub record IsAborted (session : Plan) (s : State) (client seq : ℕ) : Type 0 where
+  pub item : IsSome (item_of session client seq)
+  pub none : has_entry client seq s.history ≡ false
 
--- each item of the session has one line, in this order; the committed ones are the history, sorted by stamp; and
--- each client's stand there in its own order
-pub record IsOnceEach (names : List ItemName) (r : Ran) : Type 0 where
-  pub each : map (λ item. (item.client, item.seq)) r.items ≡ names
-  pub told : IsPermutation (told_entries r.items) r.history
-  pub in_order : HasEachOnce (committed_seqs r.items) r.history
+-- Nothing was refused or aborted without cause.
+pub record HaveCauses (session : Plan) (trace : List Actor) (s : State) : Type 0 where
+  -- each refusal of a lock is true: its client asked for it then, and the holder was the least other client in the way
+  pub refusals : AllByRecursion (IsTrue session trace) s.refusals
+  -- an item is aborted when each of its tries was refused
+  pub tries : (client seq : ℕ) → IsAborted session s client seq → refused_times client seq s.refusals ≡ session.tries
+  -- no transaction whose tuples are all in the switch is aborted
+  pub hot : (client seq : ℕ) (ops : List Op) → script_of session client seq ≡ Some ops → kind_of session.layout ops ≡ Hot → has_entry client seq s.history ≡ true

@@ -4,8 +4,7 @@
 //! are handed in.
 #![tactic(auto)]
 
-mod built;
-mod first_run;
+mod named;
 mod note;
 mod top;
 

@@ -4,10 +4,13 @@ use std::alloc::{AllocError, Global};
 use std::test::Fail;
 
 const SESSION: &str =
-    r#"{"shape":{"stages":2,"arrays":1,"cells":2,"split":1,"hosts":2},"tuples":[[0,10],[1,20],[2,30],[3,40],[4,50]],"layout":[],"tries":2,"clients":[[[["add",2,5,[]]]]],"schedule":""}"#;
+    r#"{"shape":{"stages":2,"arrays":1,"cells":2,"split":1,"hosts":2},"tuples":[[0,10],[1,20],[2,30],[3,40],[4,50]],"layout":[],"tries":1,"clients":[[[["add",2,5,[]]]],[[["add",2,1,[]]]]],"schedule":"c0 c1"}"#;
 
 const REPORT: &str =
-    "replies 1\nc0 1 cold 0.1 30>35\nhistory 1\n0.1 c0 1\ntuples 5\nt0 10\nt1 20\nt2 35\nt3 40\nt4 50\nschedule c0 c0 c0\n";
+    "replies 2\nc0 1 cold 0.1 30>35\nc1 1 abort t2 c0 @1\nhistory 1\n0.1 c0 1\ntuples 5\nt0 10\nt1 20\nt2 35\nt3 40\nt4 50\nschedule c0 c1 c0 c0\n";
+
+const LOSES: &str =
+    r#"{"shape":{"stages":1,"arrays":1,"cells":1,"split":0,"hosts":1},"tuples":[],"layout":[],"tries":1,"clients":[["lose"]],"schedule":""}"#;
 
 fn words(alloc: Global, texts: &[&str]) -> Result<Vec<Word>, AllocError> {
     let mut words = Vec::new(alloc);
@@ -25,6 +28,7 @@ fn bytes(alloc: Global, text: &str) -> Result<Vec<u8>, AllocError> {
 fn texts_get_these_answers(rt: HostRuntime) -> Result<(), Fail> {
     let cases = [
         (["run"].as_slice(), SESSION, Note::Done, REPORT),
+        (["run"].as_slice(), LOSES, Note::NotBuilt, ""),
         (
             ["run"].as_slice(),
             "",
@@ -71,6 +75,6 @@ fn faults_of_streams_are_told(rt: HostRuntime) -> Result<(), Fail> {
     let rack = CleanRack::fresh(alloc);
     let ended = command(alloc, words.as_slice(), &mut source, &mut slow, rack);
     assert_eq!(rt; ended.note, Note::WriteFault);
-    assert_eq!(rt; slow.content(), b"replies 1\n".as_slice());
+    assert_eq!(rt; slow.content(), b"replies 2\n".as_slice());
     Ok(())
 }

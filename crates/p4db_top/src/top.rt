@@ -1,24 +1,22 @@
 //! The top call.
 
-ghost use Rattle.std.specs.Prelude.{◌≡◌, ◌≢◌, ◌≤◌, ℕ, List, ◌↔◌, ◌⊎◌, [], ◌∷◌, true, Some, Ok, Err, codes, length, IsTrue, IfOk, IfErr, string_bytes};
+ghost use Rattle.std.specs.Prelude.{◌≡◌, ◌≢◌, ◌≤◌, ℕ, List, ◌↔◌, ◌⊎◌, [], ◌∷◌, true, Some, Ok, Err, codes, length, IsTrue, IfOk, IfErr};
 ghost use Rattle.port_io.specs.Cause.{Rose, HasCause};
 ghost use Rattle.catalogue.specs.Plan.{Plan};
 ghost use Rattle.catalogue.specs.PlanOf.{plan_of};
 ghost use Rattle.catalogue.specs.Sound.{IsSound};
 ghost use Rattle.session_text.specs.SessionOf.{session_of};
-ghost use Rattle.p4db_top.specs.Built.{is_built};
-ghost use Rattle.p4db_top.specs.Headline.{most_input, IsRun, Reads, Headline, StopsReading, Explains, output_of};
+ghost use Rattle.core_model.specs.Built.{has_cold_items};
+ghost use Rattle.p4db_top.specs.Headline.{most_input, IsRun, IsRead, Headline, StopsReading, Explains};
 ghost use Rattle.p4db_top.specs.Status.{status_of};
 
-use crate::built::{first_scripts, is_built};
-use crate::first_run::FinishedRun;
+use crate::named::run_named;
 use crate::note::Note;
 use catalogue::Session;
-use port_io::{LogRack, ReadAllFault, Sink, SinkFault, Source, Word, read_all, write_all};
-use report_text::report_text;
+use port_io::{LogRack, ReadAllFault, Sink, Source, Word, read_all};
 use session_text::{SessionFault, read_session};
 use std::alloc::Global;
-use txn_model::NoMemory;
+use std::marker::Brand;
 
 /// The longest input that is read, in bytes.
 const MOST_INPUT: usize = 16_777_216;
@@ -41,9 +39,9 @@ fn is_run(words: &[Word]) -> bool
     }
 }
 
-/// Reads the session that is all of the source's bytes, if it is one that is run.
+/// Reads the session that is all of the source's bytes.
 fn session_of<S: Source>(alloc: Global, source: &mut S) -> Result<Session, Note>
-    ensures ok { IfOk result (λ s. Reads (S.left source.old) (S.left source.new) (plan_of s)) }
+    ensures ok { IfOk result (λ s. IsRead (S.left source.old) (S.left source.new) (plan_of s)) }
     ensures sound { IfOk result (λ s. IsSound (plan_of s)) }
     ensures err { IfErr result (λ note. StopsReading note (S.left source.old) (S.left source.new)) }
     ensures cause { HasCause (S.faults source.old) (S.faults source.new) (result ≡ Err Note.ReadFault) }
@@ -55,51 +53,27 @@ fn session_of<S: Source>(alloc: Global, source: &mut S) -> Result<Session, Note>
         Err(ReadAllFault::NoMemory) => return Err(Note::NoMemory),
     };
     match read_session(alloc, bytes.as_slice()) {
-        Ok(session) => {
-            if is_built(&session) {
-                Ok(session)
-            } else {
-                Err(Note::NotBuilt)
-            }
-        }
+        Ok(session) => Ok(session),
         Err(SessionFault::NoMemory) => Err(Note::NoMemory),
         Err(fault) => Err(Note::Session(fault)),
     }
 }
 
-/// The whole output for a session.
-fn text_of(alloc: Global, session: Session) -> Result<String, NoMemory>
-    requires { IsSound (plan_of session) }
-    ensures { IfOk result (λ text. string_bytes text ≡ output_of (plan_of session)) }
+/// The command `run`: reads a session, runs it, prints its report, and hands the logs back.
+fn run<S: Source, K: Sink, L: LogRack>(
+    alloc: Global,
+    source: &mut S,
+    sink: &mut K,
+    rack: L,
+) -> (Note, L)
+    ensures explained { Explains result.0 (S.left source.old) (S.left source.new) (K.content sink.old) (K.content sink.new) }
+    ensures read_cause { HasCause (S.faults source.old) (S.faults source.new) (result.0 ≡ Note.ReadFault) }
+    ensures write_cause { HasCause (K.faults sink.old) (K.faults sink.new) (result.0 ≡ Note.WriteFault) }
+    ensures rack { result.1 ≡ rack }
 {
-    let scripts = first_scripts(alloc, &session)?;
-    let run = FinishedRun::of(alloc, session.tuples, scripts.as_slice())?;
-    report_text(
-        alloc,
-        run.items.as_slice(),
-        run.history.as_slice(),
-        run.tuples.rows(),
-        run.trace.as_slice(),
-    )
-}
-
-/// The command `run`: reads a session, runs it, and prints its report.
-fn run<S: Source, K: Sink>(alloc: Global, source: &mut S, sink: &mut K) -> Note
-    ensures explained { Explains result (S.left source.old) (S.left source.new) (K.content sink.old) (K.content sink.new) }
-    ensures read_cause { HasCause (S.faults source.old) (S.faults source.new) (result ≡ Note.ReadFault) }
-    ensures write_cause { HasCause (K.faults sink.old) (K.faults sink.new) (result ≡ Note.WriteFault) }
-{
-    let session = match session_of(alloc, source) {
-        Ok(session) => session,
-        Err(note) => return note,
-    };
-    let Ok(text) = text_of(alloc, session) else {
-        return Note::NoMemory;
-    };
-    match write_all(alloc, sink, text.as_bytes()) {
-        Ok(()) => Note::Done,
-        Err(SinkFault::Failed) => Note::WriteFault,
-        Err(SinkFault::NoMemory) => Note::NoMemory,
+    match session_of(alloc, source) {
+        Ok(session) => run_named::<L, K, Brand>(alloc, session, sink, rack),
+        Err(note) => (note, rack),
     }
 }
 
@@ -134,14 +108,14 @@ pub fn command<S: Source, K: Sink, L: LogRack + Send>(
     // A session within the limit is run, unless a call failed or memory ran out.
     ensures complete { (bytes : List ℕ) (session : Plan) → IsRun words.now → S.left source.old ≡ Some bytes
         → length bytes ≤ most_input → session_of bytes ≡ Ok session
-        → is_built session ≡ true → (Rose (S.faults source.old) (S.faults source.new) → ⊥) → (Rose (K.faults sink.old) (K.faults sink.new) → ⊥)
+        → has_cold_items session ≡ true → (Rose (S.faults source.old) (S.faults source.new) → ⊥) → (Rose (K.faults sink.old) (K.faults sink.new) → ⊥)
         → (result.note ≡ Note.Done) ⊎ (result.note ≡ Note.NoMemory) }
     ensures logs { result.logs ≡ logs }
 {
-    let note = if is_run(words) {
-        run(alloc, source, sink)
+    let (note, logs) = if is_run(words) {
+        run(alloc, source, sink, logs)
     } else {
-        Note::Usage
+        (Note::Usage, logs)
     };
     Ended {
         status: note.status(),

@@ -2,4 +2,6 @@ pub mod Report
 pub mod Words
 pub mod Lines
 pub mod ReportText
-pub mod Views
+pub mod RunReport
+pub mod Told
+pub mod Refused

@@ -5,7 +5,7 @@ use Rattle.std.specs.List.{flat_map}
 use Rattle.catalogue.specs.declared.actor.Actor.{Actor}
 use Rattle.history_model.specs.declared.entry.Entry.{Entry}
 use Rattle.txn_model.specs.declared.op.TupleId.{TupleId}
-use Rattle.report_text.specs.Report.{PlainItem, PlainEnd, Committed, Aborted, Lost}
+use Rattle.report_text.specs.Report.{EndedItem, PlainEnd, Committed, Aborted, Lost}
 use Rattle.catalogue.specs.ActorWord.{actor_word}
 use Rattle.report_text.specs.Words.{stamp_text, pairs_text, item_name, kind_word}
 
@@ -20,7 +20,7 @@ end_text (Aborted tuple holder at) = codes "abort t" ++ decimal tuple.0 ++ codes
 end_text Lost = codes "lose"
 
 -- an item, and how it ended
-unfoldable pub item_line : PlainItem → List ℕ
+unfoldable pub item_line : EndedItem → List ℕ
 item_line item = item_name item.client item.seq ++ codes " " ++ end_text item.end ++ codes "\n"
 
 -- an entry of the history: its stamp, and its item

@@ -1,4 +1,4 @@
--- What a report tells of a finished run, as plain data.
+-- What a report tells of a run, as plain data.
 use Rattle.std.specs.Prelude.{ℕ, ℤ, List}
 use Rattle.catalogue.specs.declared.actor.Actor.{Actor}
 use Rattle.catalogue.specs.declared.kind.Kind.{Kind}
@@ -15,14 +15,14 @@ pub data PlainEnd : Type 0 where
   Lost : PlainEnd
 
 -- an item: its client, its number there, and how it ended
-pub record PlainItem : Type 0 where
+pub record EndedItem : Type 0 where
   pub client : ℕ
   pub seq : ℕ
   pub end : PlainEnd
 
 -- the items by client and number, the history in its order, the final tuples by id, and the actors that moved
 pub record Report : Type 0 where
-  pub items : List PlainItem
+  pub items : List EndedItem
   pub history : List Entry
   pub tuples : List (TupleId × ℤ)
   pub trace : List Actor

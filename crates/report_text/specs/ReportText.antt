@@ -3,10 +3,10 @@ use Rattle.std.specs.Prelude.{ℕ, ℤ, List, ◌++◌, codes, length}
 use Rattle.std.specs.List.{flat_map}
 use Rattle.history_model.specs.declared.entry.Entry.{Entry}
 use Rattle.txn_model.specs.declared.op.TupleId.{TupleId}
-use Rattle.report_text.specs.Report.{PlainItem, Report}
+use Rattle.report_text.specs.Report.{EndedItem, Report}
 use Rattle.report_text.specs.Lines.{count_line, item_line, entry_line, tuple_line, schedule_line}
 
-unfoldable pub replies_text : List PlainItem → List ℕ
+unfoldable pub replies_text : List EndedItem → List ℕ
 replies_text items = count_line (codes "replies") (length items) ++ flat_map item_line items
 
 unfoldable pub history_text : List Entry → List ℕ

@@ -1,62 +1,12 @@
-//! Items and how they ended, and the line that a report has for each.
+//! The lines of items: one for each way in which an item ends.
 
 ghost use Rattle.std.specs.Prelude.{◌≡◌, ◌++◌, OnOk, string_bytes};
 ghost use Rattle.report_text.specs.Report.{Committed, Aborted, Lost};
 ghost use Rattle.report_text.specs.Words.{kind_word, pairs_text};
 ghost use Rattle.report_text.specs.Lines.{item_line};
-ghost use Rattle.report_text.specs.Views.{plain_item};
 
 use catalogue::Kind;
-use txn_model::{NoMemory, Pair, Pairs, Stamp, TupleId};
-
-/// How an item ended.
-#[derive(Debug, Drop)]
-pub enum ReportedEnd {
-    /// It was answered, with a pair for each operation.
-    Committed {
-        kind: Kind,
-        stamp: Stamp,
-        pairs: Pairs,
-    },
-    /// It was given up. This is its last refusal.
-    Aborted {
-        /// The tuple whose lock was refused.
-        tuple: TupleId,
-        /// The client that held it.
-        holder: u8,
-        /// The place in the trace of the move that was refused, counted from 0.
-        at: u32,
-    },
-    /// It was the loss of the switch.
-    Lost,
-}
-
-/// An item of a client, and how it ended.
-#[derive(Debug, Drop)]
-pub struct ItemReport {
-    pub client: u8,
-    /// The number of the client's item, counted from 1.
-    pub seq: u32,
-    pub end: ReportedEnd,
-}
-
-/// Appends the line of an item. After `NoMemory` a part of it may have been appended.
-pub fn push_item(text: &mut String, item: &ItemReport) -> Result<(), NoMemory>
-    ensures { OnOk result (string_bytes text.new
-        ≡ string_bytes text.old ++ item_line (plain_item item.now)) }
-{
-    let client = item.client;
-    let seq = item.seq;
-    match &item.end {
-        ReportedEnd::Committed { kind, stamp, pairs } => {
-            push_committed(text, client, seq, *kind, *stamp, pairs.as_slice())
-        }
-        ReportedEnd::Aborted { tuple, holder, at } => {
-            push_aborted(text, client, seq, *tuple, *holder, *at)
-        }
-        ReportedEnd::Lost => push_lost(text, client, seq),
-    }
-}
+use txn_model::{NoMemory, Pair, Stamp, TupleId};
 
 /// Appends the line of an item that was answered with these pairs. After `NoMemory` a part of it may
 /// have been appended.

@@ -1,17 +1,19 @@
-//! The report of a finished run: what it tells, and its text.
+//! The report of a run: what it tells, and its text.
 //!
-//! The text is defined here as a function of plain data, and made here line by line. This crate knows
-//! no run: whoever has one hands in what the lines tell, in the order in which they stand, either whole
-//! to `report_text` or line by line to the calls that it is made of.
+//! The text is a function of plain data, and that data a function of a run's session, state and trace; both
+//! are defined here. The text is made line by line from a world, and written in one piece.
 #![tactic(auto)]
 
 mod item;
 mod line;
+mod refused;
+mod reply;
+mod run_report;
 mod section;
 
-pub use item::{ItemReport, ReportedEnd, push_aborted, push_committed, push_item, push_lost};
+pub use item::{push_aborted, push_committed, push_lost};
 pub use line::{push_count, push_entry, push_schedule, push_tuple};
-pub use section::{push_history, push_replies, push_tuples, report_text};
+pub use run_report::write_report;
 
 #[cfg(test)]
 mod tests;

@@ -1,78 +1,45 @@
-//! The sections of a report, and the whole.
+//! The sections of a report that tell of a world's history and of its tuples.
 
-ghost use Rattle.std.specs.Prelude.{◌≡◌, ◌++◌, OnOk, IfOk, map, string_bytes};
-ghost use Rattle.report_text.specs.ReportText.{replies_text, history_text, tuples_text, report};
-ghost use Rattle.report_text.specs.Views.{plain_item};
+ghost use Rattle.std.specs.Prelude.{◌≡◌, ◌++◌, OnOk, map, string_bytes};
+ghost use Rattle.fabric_core.specs.Running.{state_in};
+ghost use Rattle.report_text.specs.ReportText.{history_text, tuples_text};
+ghost use Rattle.report_text.specs.RunReport.{tuples_told};
 
-use crate::item::{ItemReport, push_item};
-use crate::line::{push_count, push_entry, push_schedule, push_tuple};
-use catalogue::Actor;
-use history_model::Entry;
-use std::alloc::Global;
-use txn_model::{NoMemory, TupleId};
-
-/// Appends how many items there are, and the line of each. After `NoMemory` a part of that may have been
-/// appended.
-#[tactic(auto, unfolding(crate::specs::ReportText::replies_text))]
-pub fn push_replies(text: &mut String, items: &[ItemReport]) -> Result<(), NoMemory>
-    ensures { OnOk result (string_bytes text.new
-        ≡ string_bytes text.old ++ replies_text (map plain_item items.now)) }
-{
-    push_count(text, "replies", items.len())?;
-    for item in items {
-        push_item(text, item)?;
-    }
-    Ok(())
-}
+use crate::line::{push_count, push_entry, push_tuple};
+use fabric_core::{RunName, World};
+use history_core::History;
+use port_io::LogRack;
+use txn_model::NoMemory;
 
 /// Appends how many entries there are, and the line of each. After `NoMemory` a part of that may have
 /// been appended.
 #[tactic(auto, unfolding(crate::specs::ReportText::history_text))]
-pub fn push_history(text: &mut String, entries: &[Entry]) -> Result<(), NoMemory>
+pub(crate) fn push_history(text: &mut String, history: &History) -> Result<(), NoMemory>
     ensures { OnOk result (string_bytes text.new
-        ≡ string_bytes text.old ++ history_text entries.now) }
+        ≡ string_bytes text.old ++ history_text (map (λ e. e.entry) history.now.items)) }
 {
-    push_count(text, "history", entries.len())?;
-    for entry in entries {
-        push_entry(text, entry)?;
+    push_count(text, "history", history.len())?;
+    for i in 0..history.len() {
+        let (entry, _) = history.get(i);
+        push_entry(text, &entry)?;
     }
     Ok(())
 }
 
-/// Appends how many tuples there are, and the line of each. After `NoMemory` a part of that may have been
-/// appended.
+/// Appends how many tuples the session has, and the line of each with its value now. After `NoMemory` a
+/// part of that may have been appended.
 #[tactic(auto, unfolding(crate::specs::ReportText::tuples_text))]
-pub fn push_tuples(text: &mut String, rows: &[(TupleId, i64)]) -> Result<(), NoMemory>
-    ensures { OnOk result (string_bytes text.new ≡ string_bytes text.old ++ tuples_text rows.now) }
+pub(crate) fn push_tuples<L: LogRack, N: RunName>(
+    text: &mut String,
+    world: &World<L, N>,
+) -> Result<(), NoMemory>
+    ensures { OnOk result (string_bytes text.new
+        ≡ string_bytes text.old ++ tuples_text (tuples_told world.now.plan (state_in world.now))) }
 {
+    let rows = world.session().tuples.rows();
     push_count(text, "tuples", rows.len())?;
-    for (tuple, value) in rows {
-        push_tuple(text, *tuple, *value)?;
+    for (tuple, _) in rows {
+        push_tuple(text, *tuple, world.tuple_now(*tuple))?;
     }
     Ok(())
-}
-
-/// The whole text: the items by client and number, the history in its order, the final tuples by id, and
-/// the actors that moved.
-#[tactic(auto, unfolding(crate::specs::ReportText::report))]
-pub fn report_text(
-    alloc: Global,
-    items: &[ItemReport],
-    history: &[Entry],
-    tuples: &[(TupleId, i64)],
-    trace: &[Actor],
-) -> Result<String, NoMemory>
-    ensures { IfOk result (λ text. string_bytes text ≡ report (record {
-      items = map plain_item items.now;
-      history = history.now;
-      tuples = tuples.now;
-      trace = trace.now;
-    })) }
-{
-    let mut text = String::new(alloc);
-    push_replies(&mut text, items)?;
-    push_history(&mut text, history)?;
-    push_tuples(&mut text, tuples)?;
-    push_schedule(&mut text, trace)?;
-    Ok(text)
 }

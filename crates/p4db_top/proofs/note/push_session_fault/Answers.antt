@@ -1,4 +1,4 @@
-use Rattle.std.proofs.Common.{◌++◌, codes, List, ℕ, append_assoc, string_bytes, sym, ap, ◌∙◌}
+use Rattle.std.proofs.Common.{◌++◌, codes, List, ℕ, append_assoc, string_bytes, ap, ◌∙◌}
 use Rattle.p4db_top.specs.Status.{fault_text}
 use Rattle.p4db_top.proofs.note.push_session_fault.Goals as goal
 

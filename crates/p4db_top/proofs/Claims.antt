@@ -1,0 +1,262 @@
+-- A finished run of a session on hosts is serial, has each item once, and its aborts have causes.
+use Rattle.std.proofs.Common.{◌≡◌, ℕ, zero, suc, ◌+◌, ◌-◌, ◌<◌, ◌≤◌, ◌==◌, ◌&&◌, ◌||◌, nat_lt, Bool, true, false, cond, if◌then◌else◌, List, [], ◌∷◌, ◌++◌, map, filter, find, length, reverse, slice_get, get_or, Option, Some, None, IsSome, inl, inr, refl, sym, ap, subst, ◌∙◌, arith}
+use Rattle.std.specs.List.{flat_map, range_with_len, list_all, list_any, AllByRecursion}
+use Rattle.std.specs.Option.{option_and_then, option_map}
+use Rattle.std.proofs.lemmas.Bool.Decides.{nat_tests}
+use Rattle.std.proofs.lemmas.List.{reverse-append}
+use Rattle.std.proofs.lemmas.List.Concat.{flat_map_single}
+use Rattle.catalogue.specs.Plan.{Plan, PlainItem, Run, Lose, items_of, item_of, script_in, script_of, kind_of}
+use Rattle.catalogue.specs.declared.actor.Actor.{Actor}
+use Rattle.catalogue.specs.declared.kind.Kind.{Kind}
+use Rattle.catalogue.specs.declared.kind.Kind.TheVariants.{Hot, Cold}
+use Rattle.history_model.specs.History.{HistoryEntry, History}
+use Rattle.core_model.specs.declared.phase.Phase.TheVariants.{Finished}
+use Rattle.core_model.specs.declared.refusal.Refusal.{Refusal}
+use Rattle.core_model.specs.Built.{has_cold_items, is_cold_item}
+use Rattle.core_model.specs.Ends.{has_entry, refused_times, IsEnded}
+use Rattle.core_model.specs.Laws.{IsReached, IsFinished}
+use Rattle.core_model.specs.Rota.{numbers_below}
+use Rattle.core_model.specs.Run.{state_of}
+use Rattle.core_model.specs.State.{ClientState, State, at_item, client_at, zero_stamp}
+use Rattle.core_model.proofs.Decide.{item_at_place}
+use Rattle.core_model.proofs.Fewer.{each_entry}
+use Rattle.core_model.proofs.Legal.{legal_history, serial_values, items_in_order, items_end}
+use Rattle.core_model.proofs.Refusals.{refusals_of_run}
+use Rattle.fabric_core.specs.ItemEnds.{entry_of}
+use Rattle.report_text.specs.Report.{PlainEnd, Lost, EndedItem}
+use Rattle.report_text.specs.RunReport.{last_refusal, given_up, script_told, end_told, with_end, item_told, client_told}
+use Rattle.p4db_top.specs.Serial.{IsSerial, name_of, IsOnceEach, IsAborted, HaveCauses}
+use Rattle.p4db_top.proofs.Placed.{IsOfItem, are_placed}
+
+-- the item with a number from 1 to the number of items
+item_there : (plan : Plan) (c seq : ℕ) → 1 ≤ seq → seq ≤ length (items_of plan c) → (item : PlainItem) × (item_of plan c seq ≡ Some item)
+item_there plan c seq one within =
+    let found = item_at_place (items_of plan c) (seq - 1) (omega (arith, one, within)) in
+    (found.0, ap (λ (b : Bool). if b then None else slice_get (items_of plan c) (seq - 1)) (positive seq one) ∙ found.1)
+  where
+    positive : (n : ℕ) → 1 ≤ n → (n == 0) ≡ false
+    positive n one = grind (arith, nat_tests)
+
+-- the number of an item that is there
+place_of_item : (plan : Plan) (c seq : ℕ) → IsSome (item_of plan c seq) → (1 ≤ seq) × (seq ≤ length (items_of plan c))
+place_of_item plan c seq some = by (seq == 0) refl some
+  where
+    nothing : (n : ℕ) → (n == 0) ≡ false → 1 ≤ n
+    nothing n e = grind (arith, nat_tests)
+
+    within : (l : List PlainItem) (k : ℕ) → IsSome (slice_get l k) → k < length l
+    within [] k h = cc
+    within (x ∷ l) zero h = omega arith
+    within (x ∷ l) (suc k) h = omega (arith, within l k h)
+
+    by : (b : Bool) → (seq == 0) ≡ b → IsSome (if b then None else slice_get (items_of plan c) (seq - 1)) → (1 ≤ seq) × (seq ≤ length (items_of plan c))
+    by true e h = cc
+    by false e h = (nothing seq e, omega (arith, nothing seq e, within (items_of plan c) (seq - 1) h))
+
+-- each client has finished
+finished_at : (clients : List ClientState) (d : ℕ) → AllByRecursion (λ client. client.phase ≡ Finished) clients → (get_or clients d (at_item 0 1 zero_stamp)).phase ≡ Finished
+finished_at [] d all = refl
+finished_at (x ∷ clients) zero all = all.0
+finished_at (x ∷ clients) (suc d) all = finished_at clients d all.1
+
+module _ (plan : Plan) (s : State) (reached : IsReached plan s) (finished : IsFinished s) where
+  -- each client is behind each of its items
+  all_past : (c seq : ℕ) → seq ≤ length (items_of plan c) → seq < (client_at s c).seq
+  all_past c seq within = omega (arith, within, ((are_placed plan s reached).each c).behind (finished_at s.clients c finished))
+
+  ended : (c seq : ℕ) → IsSome (item_of plan c seq) → IsEnded plan s c seq
+  ended c seq some = let at = place_of_item plan c seq some in items_end plan s reached c seq at.0 (all_past c seq at.1)
+
+-- whether an item has an entry among one more
+has_entry-cons : (c seq : ℕ) (x : HistoryEntry) (h : History) → has_entry c seq (x ∷ h) ≡ cond (x.entry.client == c) ((x.entry.seq == seq) || has_entry c seq h) (has_entry c seq h)
+has_entry-cons c seq x h = by (x.entry.client == c)
+  where
+    by : (a : Bool) → list_any (λ q. q == seq) (map (λ z. z.entry.seq) (cond a (x ∷ filter (λ z. z.entry.client == c) h) (filter (λ z. z.entry.client == c) h))) ≡ cond a ((x.entry.seq == seq) || has_entry c seq h) (has_entry c seq h)
+    by true = refl
+    by false = refl
+
+-- an item that has an entry has one to be found
+entry_found : (c seq : ℕ) (h : History) → has_entry c seq h ≡ true → IsSome (entry_of c seq h)
+entry_found c seq [] e = cc
+entry_found c seq (x ∷ h) e = by (x.entry.client == c) (x.entry.seq == seq) (entry_found c seq h) (sym (has_entry-cons c seq x h) ∙ e)
+  where
+    by : (a b : Bool) → (has_entry c seq h ≡ true → IsSome (entry_of c seq h)) → cond a (b || has_entry c seq h) (has_entry c seq h) ≡ true
+        → IsSome (slice_get (cond (a && b) (x ∷ filter (λ z. (z.entry.client == c) && (z.entry.seq == seq)) h) (filter (λ z. (z.entry.client == c) && (z.entry.seq == seq)) h)) 0)
+    by true true rest e = refl
+    by true false rest e = rest e
+    by false b rest e = rest e
+
+-- one that has none has none to be found
+no_entry_found : (c seq : ℕ) (h : History) → has_entry c seq h ≡ false → entry_of c seq h ≡ None
+no_entry_found c seq [] e = refl
+no_entry_found c seq (x ∷ h) e = by (x.entry.client == c) (x.entry.seq == seq) (no_entry_found c seq h) (sym (has_entry-cons c seq x h) ∙ e)
+  where
+    by : (a b : Bool) → (has_entry c seq h ≡ false → entry_of c seq h ≡ None) → cond a (b || has_entry c seq h) (has_entry c seq h) ≡ false
+        → slice_get (cond (a && b) (x ∷ filter (λ z. (z.entry.client == c) && (z.entry.seq == seq)) h) (filter (λ z. (z.entry.client == c) && (z.entry.seq == seq)) h)) 0 ≡ None
+    by true true rest e = cc
+    by true false rest e = rest e
+    by false b rest e = rest e
+
+-- what is found in front of others, or behind them
+found_before : (test : Refusal → Bool) (a b : List Refusal) → IsSome (find test a) → IsSome (find test (a ++ b))
+found_before test [] b h = cc
+found_before test (r ∷ a) b h = by (test r) (found_before test a b) h
+  where
+    by : (t : Bool) → (IsSome (find test a) → IsSome (find test (a ++ b))) → IsSome (cond t (Some r) (find test a)) → IsSome (cond t (Some r) (find test (a ++ b)))
+    by true rest h = refl
+    by false rest h = rest h
+
+found_last : (test : Refusal → Bool) (a : List Refusal) (r : Refusal) → test r ≡ true → IsSome (find test (a ++ r ∷ []))
+found_last test [] r t = subst (λ (b : Bool). IsSome (cond b (Some r) None)) (sym t) refl
+found_last test (x ∷ a) r t = by (test x) (found_last test a r t)
+  where
+    by : (b : Bool) → IsSome (find test (a ++ r ∷ [])) → IsSome (cond b (Some x) (find test (a ++ r ∷ [])))
+    by true rest = refl
+    by false rest = rest
+
+-- what some pass is found from the end
+found_in : (test : Refusal → Bool) (l : List Refusal) → 1 ≤ length (filter test l) → IsSome (find test (reverse l))
+found_in test [] h = absurd (omega arith)
+found_in test (r ∷ l) h = subst (λ (x : List Refusal). IsSome (find test x)) (sym (reverse-append (r ∷ []) l)) (by (test r) refl (found_in test l) h)
+  where
+    by : (t : Bool) → test r ≡ t → (1 ≤ length (filter test l) → IsSome (find test (reverse l))) → 1 ≤ length (cond t (r ∷ filter test l) (filter test l)) → IsSome (find test (reverse l ++ r ∷ []))
+    by true t rest h = found_last test (reverse l) r t
+    by false t rest h = found_before test (reverse l) (r ∷ []) (rest h)
+
+refused_found : (c seq : ℕ) (rs : List Refusal) → 1 ≤ refused_times c seq rs → IsSome (last_refusal c seq rs)
+refused_found c seq rs some = found_in (λ r. (r.client == c) && (r.seq == seq)) rs some
+
+module _ (plan : Plan) (s : State) (reached : IsReached plan s) (finished : IsFinished s) where
+  past : (c seq : ℕ) → seq ≤ length (items_of plan c) → nat_lt seq (client_at s c).seq ≡ true
+  past c seq within = less seq (client_at s c).seq (all_past plan s reached finished c seq within)
+    where
+      less : (a b : ℕ) → a < b → nat_lt a b ≡ true
+      less a b lt = grind (arith, nat_tests)
+
+  -- each item's end is told
+  end_is_told : (c seq : ℕ) (item : PlainItem) → item_of plan c seq ≡ Some item → IsSome (end_told plan s c seq item)
+  end_is_told c seq item is = told item is
+    where
+      at : (1 ≤ seq) × (seq ≤ length (items_of plan c))
+      at = place_of_item plan c seq (subst IsSome (sym is) refl)
+
+      refused : (o : Option Refusal) → IsSome o → IsSome (option_map given_up o)
+      refused (Some r) h = refl
+      refused None h = cc
+
+      script : (kind : Kind) → IsEnded plan s c seq → IsSome (script_told kind (entry_of c seq s.history) (last_refusal c seq s.refusals) (nat_lt seq (client_at s c).seq))
+      script kind (inl has) = by (entry_of c seq s.history) (entry_found c seq s.history has)
+        where
+          by : (o : Option HistoryEntry) → IsSome o → IsSome (script_told kind o (last_refusal c seq s.refusals) (nat_lt seq (client_at s c).seq))
+          by (Some e) h = refl
+          by None h = cc
+      script kind (inr none) =
+          subst (λ (o : Option HistoryEntry). IsSome (script_told kind o (last_refusal c seq s.refusals) (nat_lt seq (client_at s c).seq))) (sym (no_entry_found c seq s.history none.1))
+          (subst (λ (b : Bool). IsSome (if b then option_map given_up (last_refusal c seq s.refusals) else None)) (sym (past c seq at.1))
+          (refused (last_refusal c seq s.refusals) (refused_found c seq s.refusals (omega (arith, none.0, reached.sound.limits.tries.0)))))
+
+      told : (i : PlainItem) → item_of plan c seq ≡ Some i → IsSome (end_told plan s c seq i)
+      told (Run ops) e = script (kind_of plan.layout ops) (ended plan s reached finished c seq (subst IsSome (sym e) refl))
+      told Lose e = subst (λ (b : Bool). IsSome (if b then Some Lost else None)) (sym (past c seq at.1)) refl
+
+  -- the name on the line of each item
+  line_of_item : (c seq : ℕ) → 1 ≤ seq → seq ≤ length (items_of plan c) → map name_of (item_told plan s c seq) ≡ (c, seq) ∷ []
+  line_of_item c seq one within =
+      let found = item_there plan c seq one within in
+      ap (λ (o : Option PlainItem). map name_of (with_end c seq (option_and_then (end_told plan s c seq) o))) found.1
+      ∙ named (end_told plan s c seq found.0) (end_is_told c seq found.0 found.1)
+    where
+      named : (o : Option PlainEnd) → IsSome o → map name_of (with_end c seq o) ≡ (c, seq) ∷ []
+      named (Some end) h = refl
+      named None h = cc
+
+-- lists that are made of alike parts
+alike_from : {X : Type 0} (f g : ℕ → List X) (a n : ℕ) → ((i : ℕ) → a ≤ i → i < a + n → f i ≡ g i) → flat_map f (range_with_len a n) ≡ flat_map g (range_with_len a n)
+alike_from f g a zero alike = refl
+alike_from f g a (suc n) alike =
+    ap (λ l. l ++ flat_map f (range_with_len (a + 1) n)) (alike a (omega arith) (omega arith))
+    ∙ ap (λ l. g a ++ l) (alike_from f g (a + 1) n (λ i from to. alike i (omega arith) (omega arith)))
+
+map-flat_map : (f : ℕ → List EndedItem) (l : List ℕ) → map name_of (flat_map f l) ≡ flat_map (λ i. map name_of (f i)) l
+map-flat_map f [] = refl
+map-flat_map f (i ∷ l) = split (f i) (flat_map f l) ∙ ap (λ (r : List (ℕ × ℕ)). map name_of (f i) ++ r) (map-flat_map f l)
+  where
+    split : (a b : List EndedItem) → map name_of (a ++ b) ≡ map name_of a ++ map name_of b
+    split [] b = refl
+    split (x ∷ a) b = ap (λ (r : List (ℕ × ℕ)). (x.client, x.seq) ∷ r) (split a b)
+
+-- a session on hosts loses no switch
+passes : {X : Type 0} (test : X → Bool) (l : List X) (k : ℕ) (x : X) → list_all test l ≡ true → slice_get l k ≡ Some x → test x ≡ true
+passes test [] k x all at = cc
+passes test (y ∷ l) zero x all at = ap test (same at) ∙ front (test y) (list_all test l) all
+  where
+    same : Some y ≡ Some x → x ≡ y
+    same e = cc
+
+    front : (a b : Bool) → (a && b) ≡ true → a ≡ true
+    front true b e = refl
+    front false b e = cc
+passes test (y ∷ l) (suc k) x all at = passes test l k x (rest (test y) (list_all test l) all) at
+  where
+    rest : (a b : Bool) → (a && b) ≡ true → b ≡ true
+    rest true b e = e
+    rest false b e = cc
+
+passes_at : (test : List PlainItem → Bool) (lists : List (List PlainItem)) (c : ℕ) → test [] ≡ true → list_all test lists ≡ true → test (get_or lists c []) ≡ true
+passes_at test [] c none all = none
+passes_at test (l ∷ lists) zero none all = passes test (l ∷ lists) zero l all refl
+passes_at test (l ∷ lists) (suc c) none all = passes_at test lists c none (rest (test l) (list_all test lists) all)
+  where
+    rest : (a b : Bool) → (a && b) ≡ true → b ≡ true
+    rest true b e = e
+    rest false b e = cc
+
+cold_item : (plan : Plan) (c seq : ℕ) (item : PlainItem) → has_cold_items plan ≡ true → item_of plan c seq ≡ Some item → is_cold_item plan.layout item ≡ true
+cold_item plan c seq item cold is = by (seq == 0) is
+  where
+    by : (b : Bool) → (if b then None else slice_get (items_of plan c) (seq - 1)) ≡ Some item → is_cold_item plan.layout item ≡ true
+    by true e = cc
+    by false e = passes (is_cold_item plan.layout) (items_of plan c) (seq - 1) item (passes_at (λ items. list_all (is_cold_item plan.layout) items) plan.clients c refl cold) e
+
+entry_is_item's : (plan : Plan) (e : HistoryEntry) → has_cold_items plan ≡ true → IsOfItem plan e → IsSome (script_of plan e.entry.client e.entry.seq)
+entry_is_item's plan e cold at =
+    let found = item_there plan e.entry.client e.entry.seq at.0 at.1 in
+    subst (λ (o : Option PlainItem). IsSome (option_and_then script_in o)) (sym found.1) (scripted found.0 (cold_item plan e.entry.client e.entry.seq found.0 cold found.1))
+  where
+    scripted : (item : PlainItem) → is_cold_item plan.layout item ≡ true → IsSome (script_in item)
+    scripted (Run ops) e = refl
+    scripted Lose e = cc
+
+pub run_is_serial : (plan : Plan) (s : State) → IsReached plan s → IsFinished s → IsSerial plan s
+run_is_serial plan s reached finished = record { history = legal_history plan s reached; values = serial_values plan s reached finished }
+
+pub run_is_once_each : (plan : Plan) (s : State) → has_cold_items plan ≡ true → IsReached plan s → IsFinished s → IsOnceEach plan s
+run_is_once_each plan s cold reached finished = record {
+  finished = finished;
+  ended = ended plan s reached finished;
+  lines =
+      map-flat_map (client_told plan s) (numbers_below (length plan.clients))
+      ∙ alike_from (λ c. map name_of (client_told plan s c)) (λ c. map (λ seq. (c, seq)) (range_with_len 1 (length (items_of plan c)))) 0 (length plan.clients) (λ c _ _. client_lines c);
+  entries = each_entry s.history (λ e at. entry_is_item's plan e cold at) (are_placed plan s reached).entries;
+  in_order = (items_in_order plan s reached).ascending;
+}
+  where
+    client_lines : (c : ℕ) → map name_of (client_told plan s c) ≡ map (λ seq. (c, seq)) (range_with_len 1 (length (items_of plan c)))
+    client_lines c =
+        map-flat_map (item_told plan s c) (range_with_len 1 (length (items_of plan c)))
+        ∙ alike_from (λ seq. map name_of (item_told plan s c seq)) (λ seq. (c, seq) ∷ []) 1 (length (items_of plan c)) (λ seq one to. line_of_item plan s reached finished c seq one (omega (arith, to)))
+        ∙ flat_map_single (λ seq. (c, seq)) (range_with_len 1 (length (items_of plan c)))
+
+pub aborts_have_causes : (plan : Plan) (trace : List Actor) (s : State) → state_of plan trace ≡ Some s → IsReached plan s → IsFinished s → HaveCauses plan trace s
+aborts_have_causes plan trace s run reached finished = record {
+  refusals = refusals_of_run plan trace s run;
+  tries = λ c seq aborted. refused_all c seq aborted (ended plan s reached finished c seq aborted.item);
+  hot = λ c seq ops is hot. absurd (clash (sym hot ∙ reached.cold c seq ops is));
+}
+  where
+    refused_all : (c seq : ℕ) → IsAborted plan s c seq → IsEnded plan s c seq → refused_times c seq s.refusals ≡ plan.tries
+    refused_all c seq aborted (inl has) = let both = sym has ∙ aborted.none in cc
+    refused_all c seq aborted (inr all) = all.0
+
+    clash : Hot ≡ Cold → ⊥
+    clash e = cc

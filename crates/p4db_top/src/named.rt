@@ -1,0 +1,61 @@
+//! The run of a session, under a name.
+
+ghost use Rattle.std.specs.Prelude.{◌≡◌};
+ghost use Rattle.port_io.specs.Cause.{HasCause};
+ghost use Rattle.catalogue.specs.PlanOf.{plan_of};
+ghost use Rattle.catalogue.specs.Sound.{IsSound};
+ghost use Rattle.core_model.specs.Laws.{IsFinished};
+ghost use Rattle.core_model.specs.Rota.{driven};
+ghost use Rattle.fabric_core.specs.Running.{state_in};
+ghost use Rattle.p4db_top.specs.Ran.{Ran};
+
+use crate::note::Note;
+use catalogue::Session;
+use fabric_core::{BeginFault, End, RunName, World};
+use port_io::{LogRack, Sink, SinkFault};
+use report_text::write_report;
+use std::alloc::Global;
+
+/// Runs a session by its schedule, prints the report of its run, and hands the logs back.
+pub(crate) fn run_named<L: LogRack, K: Sink, N: RunName>(
+    alloc: Global,
+    session: Session,
+    sink: &mut K,
+    rack: L,
+) -> (Note, L)
+    requires sound { IsSound (plan_of session) }
+    requires named { plan_of session ≡ N.session }
+    ensures ran { Ran result.0 (plan_of session) (K.content sink.old) (K.content sink.new) }
+    ensures cause { HasCause (K.faults sink.old) (K.faults sink.new) (result.0 ≡ Note.WriteFault) }
+    ensures rack { result.1 ≡ rack }
+{
+    // The world takes the session, and its schedule with it.
+    let Ok(actors) = session.schedule.copy(alloc) else {
+        return (Note::NoMemory, rack);
+    };
+    let mut world = match World::<L, N>::begin(alloc, session, rack) {
+        Ok(world) => world,
+        Err((rack, BeginFault::NotBuilt)) => return (Note::NotBuilt, rack),
+        Err((rack, BeginFault::NoMemory)) => return (Note::NoMemory, rack),
+    };
+    let End::Finished = world.run(actors.as_slice());
+    let note = print(alloc, &world, sink);
+    (note, world.into_rack())
+}
+
+/// Prints the report of a world that has finished its driven run.
+fn print<L: LogRack, K: Sink, N: RunName>(alloc: Global, world: &World<L, N>, sink: &mut K) -> Note
+    requires driven { world.now.trace ≡ driven world.now.plan }
+    requires finished { IsFinished (state_in world.now) }
+    ensures ran { Ran result world.now.plan (K.content sink.old) (K.content sink.new) }
+    ensures cause { HasCause (K.faults sink.old) (K.faults sink.new) (result ≡ Note.WriteFault) }
+{
+    // What the world keeps: it is a run of its session, and its trace one of moves.
+    let _ = world.session();
+    let _ = world.trace();
+    match write_report(alloc, world, sink) {
+        Ok(()) => Note::Done,
+        Err(SinkFault::Failed) => Note::WriteFault,
+        Err(SinkFault::NoMemory) => Note::NoMemory,
+    }
+}

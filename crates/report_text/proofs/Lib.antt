@@ -1,0 +1,3 @@
+pub mod RowsThere
+pub mod ToldLaws
+pub mod Refusals

@@ -1,0 +1,110 @@
+-- What a report tells of items.
+use Rattle.std.proofs.Common.{◌≡◌, ℕ, suc, ◌+◌, nat_lt, Bool, true, false, if◌then◌else◌, List, [], ◌∷◌, ◌++◌, filter, map, zero, take, slice_get, unwrap_or, Option, Some, None, append_assoc, append-nil, length-append, arith, refl, sym, ap, ◌∙◌}
+use Rattle.std.specs.List.{flat_map, range_with_len}
+use Rattle.std.specs.Option.{option_map, option_and_then}
+use Rattle.std.proofs.lemmas.Grind.{flat_map-append}
+use Rattle.txn_model.specs.declared.op.Op.{Op}
+use Rattle.txn_model.specs.declared.pairs.Pair.{Pair}
+use Rattle.catalogue.specs.Plan.{Plan, PlainItem, Run, Lose, item_of, kind_of}
+use Rattle.catalogue.specs.declared.kind.Kind.{Kind}
+use Rattle.history_model.specs.History.{HistoryEntry, History}
+use Rattle.history_core.specs.Answers.{is_of_item, reply_of}
+use Rattle.core_model.specs.declared.refusal.Refusal.{Refusal}
+use Rattle.core_model.specs.State.{State, client_at}
+use Rattle.fabric_core.specs.ItemEnds.{entry_of, script_end, end_of, item_end}
+use Rattle.fabric_core.specs.declared.ends.ItemEnd.{ItemEnd}
+use Rattle.fabric_core.specs.declared.ends.ItemEnd.TheVariants as ends
+use Rattle.report_text.specs.Lines.{item_line, entry_line}
+use Rattle.report_text.specs.Report.{PlainEnd, Committed, Lost, EndedItem}
+use Rattle.report_text.specs.RunReport.{last_refusal, given_up, script_told, is_past, end_told, with_end, item_told}
+use Rattle.report_text.specs.Told.{Tells}
+
+-- an item's reply is that of its entry
+reply-entry_of : (client seq : ℕ) (h : History) → reply_of client seq h ≡ option_and_then (λ e. e.pairs) (entry_of client seq h)
+reply-entry_of client seq [] = refl
+reply-entry_of client seq (e ∷ h) =
+    elim (is_of_item client seq e) as (λ b. (if b then e.pairs else reply_of client seq h) ≡ option_and_then (λ e. e.pairs) (slice_get (if b then e ∷ filter (is_of_item client seq) h else filter (is_of_item client seq) h) 0)) [
+      | true ↦ refl
+      | false ↦ reply-entry_of client seq h
+    ]
+
+-- the end that a transaction's line tells, by what a world answers
+abbrev pub told_by : Kind → Option (List Pair) → Option Refusal → ItemEnd → Option PlainEnd
+told_by kind reply refusal (ends.Committed stamp) = Some (Committed kind stamp (unwrap_or reply []))
+told_by kind reply refusal ends.Aborted = option_map given_up refusal
+told_by kind reply refusal ends.Pending = None
+told_by kind reply refusal ends.Lost = None
+
+script_told_by : (kind : Kind) (o : Option HistoryEntry) (refusal : Option Refusal) (seq present : ℕ)
+    → script_told kind o refusal (nat_lt seq present) ≡ told_by kind (option_and_then (λ e. e.pairs) o) refusal (script_end o seq present)
+script_told_by kind (Some e) refusal seq present = refl
+script_told_by kind None refusal seq present = elim (nat_lt seq present) as (λ b. (if b then option_map given_up refusal else None) ≡ told_by kind None refusal (if b then ends.Aborted else ends.Pending)) [ true ↦ refl | false ↦ refl ]
+
+pub script_item_told : (plan : Plan) (s : State) (client seq : ℕ) (ops : List Op) (end : ItemEnd) → item_of plan client seq ≡ Some (Run ops) → end ≡ item_end plan s client seq
+    → item_told plan s client seq ≡ with_end client seq (told_by (kind_of plan.layout ops) (reply_of client seq s.history) (last_refusal client seq s.refusals) end)
+script_item_told plan s client seq ops end is ended =
+    ap (λ (o : Option PlainItem). with_end client seq (option_and_then (end_told plan s client seq) o)) is
+    ∙ ap (with_end client seq) (script_told_by kind (entry_of client seq s.history) refusal seq (client_at s client).seq)
+    ∙ ap (λ (o : Option (List Pair)). with_end client seq (told_by kind o refusal (script_end (entry_of client seq s.history) seq (client_at s client).seq))) (sym (reply-entry_of client seq s.history))
+    ∙ ap (λ (e : ItemEnd). with_end client seq (told_by kind (reply_of client seq s.history) refusal e)) (sym (ended ∙ ap (end_of s client seq) is))
+  where
+    kind : Kind
+    kind = kind_of plan.layout ops
+
+    refusal : Option Refusal
+    refusal = last_refusal client seq s.refusals
+
+-- the same of a loss of the switch
+abbrev pub loss_told_by : ItemEnd → Option PlainEnd
+loss_told_by ends.Lost = Some Lost
+loss_told_by ends.Pending = None
+loss_told_by ends.Aborted = None
+loss_told_by (ends.Committed stamp) = None
+
+pub loss_item_told : (plan : Plan) (s : State) (client seq : ℕ) (end : ItemEnd) → item_of plan client seq ≡ Some Lose → end ≡ item_end plan s client seq
+    → item_told plan s client seq ≡ with_end client seq (loss_told_by end)
+loss_item_told plan s client seq end is ended =
+    ap (λ (o : Option PlainItem). with_end client seq (option_and_then (end_told plan s client seq) o)) is
+    ∙ by (is_past s client seq)
+    ∙ ap (λ (e : ItemEnd). with_end client seq (loss_told_by e)) (sym (ended ∙ ap (end_of s client seq) is))
+  where
+    by : (b : Bool) → with_end client seq (if b then Some Lost else None) ≡ with_end client seq (loss_told_by (if b then ends.Lost else ends.Pending))
+    by true = refl
+    by false = refl
+
+-- nothing is told of an item that isn't there
+pub none_told : (plan : Plan) (s : State) (client seq : ℕ) → item_of plan client seq ≡ None → item_told plan s client seq ≡ []
+none_told plan s client seq is = ap (λ (o : Option PlainItem). with_end client seq (option_and_then (end_told plan s client seq) o)) is
+
+-- items behind items
+pub tells-append : (a b : List EndedItem) (before between after : List ℕ) (m n : ℕ) → Tells a before between m → Tells b between after n → Tells (a ++ b) before after (m + n)
+tells-append a b before between after m n x y = record {
+  lines = y.lines ∙ ap (λ (l : List ℕ). l ++ flat_map item_line b) x.lines ∙ append_assoc before (flat_map item_line a) (flat_map item_line b) ∙ ap (λ (l : List ℕ). before ++ l) (sym (flat_map-append item_line a b));
+  many = omega (arith, x.many, y.many, length-append a b);
+}
+
+-- one number more
+range_more : (a n : ℕ) → range_with_len a (suc n) ≡ range_with_len a n ++ (a + n) ∷ []
+range_more a zero = ap (λ (k : ℕ). k ∷ []) {x = a} {y = a + 0} (omega arith)
+range_more a (suc n) = ap (λ (l : List ℕ). a ∷ l) (range_more (a + 1) n) ∙ ap (λ (k : ℕ). a ∷ (range_with_len (a + 1) n ++ k ∷ [])) {x = (a + 1) + n} {y = a + suc n} (omega arith)
+
+pub one_more : (f : ℕ → List EndedItem) (a n k : ℕ) → k ≡ a + n → flat_map f (range_with_len a (n + 1)) ≡ flat_map f (range_with_len a n) ++ f k
+one_more f a n k is =
+    ap (λ (m : ℕ). flat_map f (range_with_len a m)) {x = n + 1} {y = suc n} (omega arith)
+    ∙ ap (flat_map f) (range_more a n ∙ ap (λ (m : ℕ). range_with_len a n ++ m ∷ []) (sym is))
+    ∙ flat_map-append f (range_with_len a n) (k ∷ []) ∙ ap (λ (l : List EndedItem). flat_map f (range_with_len a n) ++ l) (append-nil (f k))
+
+-- one entry more
+pub entry_more : (h : History) (i : ℕ) (e : HistoryEntry) (old now new : List ℕ) → slice_get h i ≡ Some e → now ≡ old ++ flat_map entry_line (map (λ e. e.entry) (take i h)) → new ≡ now ++ entry_line e.entry
+    → new ≡ old ++ flat_map entry_line (map (λ e. e.entry) (take (i + 1) h))
+entry_more h i e old now new at done one =
+    one ∙ ap (λ (l : List ℕ). l ++ entry_line e.entry) done ∙ append_assoc old (flat_map entry_line (map (λ e. e.entry) (take i h))) (entry_line e.entry)
+    ∙ ap (λ (l : List ℕ). old ++ l) (sym (longer h i at) ∙ ap (λ (n : ℕ). flat_map entry_line (map (λ e. e.entry) (take n h))) {x = suc i} {y = i + 1} (omega arith))
+  where
+    same : (a b : HistoryEntry) → Some a ≡ Some b → a ≡ b
+    same a b eq = cc
+
+    longer : (l : History) (k : ℕ) → slice_get l k ≡ Some e → flat_map entry_line (map (λ e. e.entry) (take (suc k) l)) ≡ flat_map entry_line (map (λ e. e.entry) (take k l)) ++ entry_line e.entry
+    longer [] k g = cc
+    longer (f ∷ l) zero g = append-nil (entry_line f.entry) ∙ ap (λ (x : HistoryEntry). entry_line x.entry) (same f e g)
+    longer (f ∷ l) (suc k) g = ap (λ (t : List ℕ). entry_line f.entry ++ t) (longer l k g) ∙ sym (append_assoc (entry_line f.entry) (flat_map entry_line (map (λ e. e.entry) (take k l))) (entry_line e.entry))

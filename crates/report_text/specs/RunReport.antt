@@ -1,0 +1,62 @@
+-- The report of a run: what it tells of a state of a session, and of the moves that made it.
+use Rattle.std.specs.Prelude.{ℕ, ℤ, ◌==◌, ◌&&◌, nat_lt, Bool, if◌then◌else◌, List, [], ◌∷◌, map, length, reverse, find, Option, Some, None, unwrap_or, option_and_then}
+use Rattle.std.specs.List.{flat_map, range_with_len}
+use Rattle.std.specs.Option.{option_map}
+use Rattle.std.specs.FinMap as fin
+use Rattle.txn_model.specs.declared.op.TupleId.{TupleId}
+use Rattle.catalogue.specs.Plan.{Plan, PlainItem, Run, Lose, items_of, item_of, kind_of}
+use Rattle.catalogue.specs.declared.actor.Actor.{Actor}
+use Rattle.catalogue.specs.declared.kind.Kind.{Kind}
+use Rattle.history_model.specs.History.{HistoryEntry}
+use Rattle.core_model.specs.declared.refusal.Refusal.{Refusal}
+use Rattle.core_model.specs.Rota.{numbers_below}
+use Rattle.core_model.specs.State.{State, client_at, seen_at}
+use Rattle.fabric_core.specs.ItemEnds.{entry_of}
+use Rattle.report_text.specs.Report.{PlainEnd, Committed, Aborted, Lost, EndedItem, Report}
+
+-- the last refusal of a client's item; None where it has none
+abbrev pub last_refusal : ℕ → ℕ → List Refusal → Option Refusal
+last_refusal client seq rs = find (λ r. (r.client == client) && (r.seq == seq)) (reverse rs)
+
+-- given up after this refusal
+abbrev pub given_up : Refusal → PlainEnd
+given_up r = Aborted r.tuple r.holder r.at
+
+-- a transaction with an entry was answered by it; one without, which its client is behind, was given up after its last refusal
+abbrev pub script_told : Kind → Option HistoryEntry → Option Refusal → (is_past : Bool) → Option PlainEnd
+script_told kind (Some e) refusal is_past = Some (Committed kind e.entry.stamp (unwrap_or e.pairs []))
+script_told kind None refusal is_past = if is_past then option_map given_up refusal else None
+
+-- whether a client is behind its item with this number
+abbrev pub is_past : State → ℕ → ℕ → Bool
+is_past s client seq = nat_lt seq (client_at s client).seq
+
+-- how this item of a client ended; None where it hasn't
+abbrev pub end_told : Plan → State → ℕ → ℕ → PlainItem → Option PlainEnd
+end_told plan s client seq (Run ops) = script_told (kind_of plan.layout ops) (entry_of client seq s.history) (last_refusal client seq s.refusals) (is_past s client seq)
+end_told plan s client seq Lose = if is_past s client seq then Some Lost else None
+
+-- the item with this end, where it has one
+abbrev pub with_end : ℕ → ℕ → Option PlainEnd → List EndedItem
+with_end client seq None = []
+with_end client seq (Some end) = record { client = client; seq = seq; end = end } ∷ []
+
+-- the client's item with this number, counted from 1, where it has ended
+abbrev pub item_told : Plan → State → ℕ → ℕ → List EndedItem
+item_told plan s client seq = with_end client seq (option_and_then (end_told plan s client seq) (item_of plan client seq))
+
+-- the items of a client that have ended, in order
+abbrev pub client_told : Plan → State → ℕ → List EndedItem
+client_told plan s client = flat_map (item_told plan s client) (range_with_len 1 (length (items_of plan client)))
+
+-- the items that have ended, by client, then by number
+abbrev pub items_told : Plan → State → List EndedItem
+items_told plan s = flat_map (client_told plan s) (numbers_below (length plan.clients))
+
+-- each tuple of the session by id, with its value in the state
+abbrev pub tuples_told : Plan → State → List (TupleId × ℤ)
+tuples_told plan s = map (λ row. (row.0, (seen_at s.store row.0).value)) (fin.entries plan.tuples)
+
+-- the report of a state that this trace made
+abbrev pub run_report : Plan → State → List Actor → Report
+run_report plan s trace = record { items = items_told plan s; history = map (λ e. e.entry) s.history; tuples = tuples_told plan s; trace = trace }
