@@ -1,5 +1,5 @@
 -- Sessions as lists and finite maps, without spare room: what each client runs, and what is asked of it.
-use Rattle.std.specs.Prelude.{ℕ, ◌-◌, ◌%◌, ◌==◌, List, [], Option, Some, None, slice_get, slice_index_or, option_and_then, if◌then◌else◌}
+use Rattle.std.specs.Prelude.{ℕ, ◌-◌, ◌%◌, ◌==◌, List, [], Option, Some, None, slice_get, slice_index_or, option_and_then, unwrap_or, if◌then◌else◌}
 use Rattle.std.specs.List.{list_all, list_any}
 use Rattle.txn_model.specs.Places.{Places}
 use Rattle.txn_model.specs.Tuples.{Tuples}
@@ -41,6 +41,10 @@ script_in Lose = None
 -- the transaction that is this item of the client; None where it is a loss, or there is no such item
 abbrev pub script_of : Plan → ℕ → ℕ → Option (List Op)
 script_of plan client seq = option_and_then script_in (item_of plan client seq)
+
+-- its operations; none where there is no transaction
+abbrev pub script_at : Plan → ℕ → ℕ → List Op
+script_at plan client seq = unwrap_or (script_of plan client seq) []
 
 -- the host of a tuple
 abbrev pub host_of : Plan → TupleId → ℕ

@@ -5,7 +5,7 @@ ghost use Rattle.std.specs.List.{list_all, list_any};
 ghost use Rattle.std.specs.Option.{option_map};
 ghost use Rattle.stage_layout.specs.Late.{is_hot};
 ghost use Rattle.catalogue.specs.Items.{plain_item};
-ghost use Rattle.catalogue.specs.Plan.{items_of, item_of, host_of, kind_of, hot_cells};
+ghost use Rattle.catalogue.specs.Plan.{items_of, item_of, script_of, host_of, kind_of, hot_cells};
 ghost use Rattle.catalogue.specs.PlanOf.{plan_of};
 
 use crate::actor::Actors;
@@ -67,6 +67,17 @@ impl Session {
             return None;
         }
         self.clients.items(client).get(seq as usize - 1)
+    }
+
+    /// The transaction that is the client's item with this number, counted from 1; None exactly where there is
+    /// no such item, or it isn't a transaction.
+    pub fn script(&self, client: u8, seq: u32) -> Option<&Script>
+        ensures { option_map (λ script. script.now.items) result ≡ script_of (plan_of self.now) client seq }
+    {
+        match self.item(client, seq) {
+            Some(Item::Run(script)) => Some(script),
+            Some(Item::Lose) | None => None,
+        }
     }
 
     /// The host of the tuple.

@@ -4,7 +4,6 @@ ghost use Rattle.std.specs.Prelude.{◌≡◌, ◌+◌, ◌-◌, ◌<◌, ◌≤
 ghost use Rattle.txn_model.specs.ScriptCheck.{script_fault};
 ghost use Rattle.txn_model.specs.declared.op.Op.{Op};
 ghost use Rattle.txn_model.specs.declared.stamp.Seen.{Seen};
-ghost use Rattle.history_model.specs.History.{greater};
 ghost use Rattle.catalogue.specs.Plan.{Plan, items_of};
 ghost use Rattle.core_model.specs.State as model;
 ghost use Rattle.core_model.specs.Step.{aborting, installed_one};
@@ -14,6 +13,7 @@ ghost use Rattle.client_phase.specs.Shown.{plain_client, room_of, shown, IsTakin
 use crate::action::Action;
 use crate::found::note;
 use core_model::Phase;
+use history_model::greater;
 use std::alloc::Global;
 use txn_model::{MOST_OPS, NoMemory, Pairs, Script, Seen, Stamp};
 
@@ -201,10 +201,4 @@ fn phase_at(items: u32, seq: u32) -> Phase
     } else {
         Phase::Finished
     }
-}
-
-fn greater(a: Stamp, b: Stamp) -> Stamp
-    ensures { result ≡ greater a b }
-{
-    if a < b { b } else { a }
 }

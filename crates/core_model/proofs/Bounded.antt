@@ -5,7 +5,7 @@ use Rattle.std.proofs.lemmas.Bool.Decides.{nat_tests}
 use Rattle.std.proofs.lemmas.Option.{slice_get_within}
 use Rattle.txn_model.specs.declared.op.Op.{Op}
 use Rattle.txn_model.specs.declared.stamp.Seen.{Seen}
-use Rattle.catalogue.specs.Plan.{Plan, PlainItem, Run, Lose, items_of, script_in}
+use Rattle.catalogue.specs.Plan.{Plan, PlainItem, Run, Lose, items_of, script_in, script_at}
 use Rattle.catalogue.specs.declared.actor.Actor.{Actor}
 use Rattle.core_model.specs.declared.phase.Phase.{Phase}
 use Rattle.core_model.specs.declared.phase.Phase.TheVariants.{Ready, Aborting, Installing, Finished}
@@ -13,7 +13,7 @@ use Rattle.core_model.specs.Asking.{IsAsking, next_op}
 use Rattle.core_model.specs.Bound.{script_bound, item_bound, items_bound, tries_left, item_left, client_left, left_from, moves_left, clients_bound, move_bound}
 use Rattle.core_model.specs.Locks.{cold_ops}
 use Rattle.core_model.specs.State.{ClientState, State, at_item, client_at, script_now, seen_at, zero_stamp}
-use Rattle.core_model.specs.Facts.{FitsPhase, steps_now, script_at}
+use Rattle.core_model.specs.Facts.{FitsPhase, steps_now}
 use Rattle.core_model.specs.Run.{first_clients, opening, state_behind}
 use Rattle.core_model.specs.Step.{aborting, try_ended, next_item, granted, refused, released, decided, installed}
 use Rattle.core_model.proofs.Runs.{by_moves}

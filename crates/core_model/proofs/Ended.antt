@@ -5,13 +5,13 @@ use Rattle.std.proofs.lemmas.Bool.Decides.{nat_tests}
 use Rattle.txn_model.specs.declared.op.Op.{Op}
 use Rattle.txn_model.specs.declared.stamp.Seen.{Seen}
 use Rattle.history_model.specs.InOrder.{seqs_of}
-use Rattle.catalogue.specs.Plan.{Plan, PlainItem, items_of}
+use Rattle.catalogue.specs.Plan.{Plan, PlainItem, items_of, script_at}
 use Rattle.catalogue.specs.declared.actor.Actor.{Actor}
 use Rattle.core_model.specs.declared.phase.Phase.{Phase}
 use Rattle.core_model.specs.declared.phase.Phase.TheVariants.{Ready, Locking, Aborting, Logged, Waiting, Installing, Finished}
 use Rattle.core_model.specs.declared.refusal.Refusal.{Refusal}
 use Rattle.core_model.specs.Asking.{IsAsking}
-use Rattle.core_model.specs.Facts.{steps_now, script_at}
+use Rattle.core_model.specs.Facts.{steps_now}
 use Rattle.core_model.specs.Run.{opening, first_clients, state_behind}
 use Rattle.core_model.specs.Laws.{IsPast, HasItemsInOrder}
 use Rattle.core_model.specs.Ends.{has_entry, refused_times}

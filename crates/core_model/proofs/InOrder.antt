@@ -5,7 +5,7 @@ use Rattle.txn_model.specs.declared.stamp.Seen.{Seen}
 use Rattle.txn_model.specs.declared.stamp.Stamp.{Stamp}
 use Rattle.history_model.specs.History.{HistoryEntry, History, IsInStampOrder, entry_cmp, with_entry}
 use Rattle.history_model.specs.InOrder.{seqs_of}
-use Rattle.catalogue.specs.Plan.{Plan}
+use Rattle.catalogue.specs.Plan.{Plan, script_at}
 use Rattle.catalogue.specs.declared.actor.Actor.{Actor}
 use Rattle.core_model.specs.declared.phase.Phase.TheVariants.{Ready, Aborting, Installing}
 use Rattle.core_model.specs.Asking.{IsAsking}
@@ -15,7 +15,7 @@ use Rattle.core_model.specs.StampOrder.{Below}
 use Rattle.core_model.specs.State.{ClientState, State, at_item, client_at, zero_stamp}
 use Rattle.core_model.specs.Step.{aborting, try_ended, next_item, granted, refused, released, decided, installed, installed_one}
 use Rattle.core_model.specs.Run.{state_behind}
-use Rattle.core_model.specs.Facts.{steps_now, script_at}
+use Rattle.core_model.specs.Facts.{steps_now}
 use Rattle.core_model.proofs.Runs.{by_moves}
 use Rattle.core_model.proofs.Entries.{placed, not_behind}
 use Rattle.core_model.proofs.Fewer.{same_or_not, each_entry}

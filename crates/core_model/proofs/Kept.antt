@@ -9,7 +9,7 @@ use Rattle.txn_model.specs.declared.pairs.Pair.{Pair}
 use Rattle.txn_model.specs.declared.stamp.Seen.{Seen}
 use Rattle.history_model.specs.Chain.{Step, steps_of}
 use Rattle.history_model.specs.History.{HistoryEntry, AllAnswered}
-use Rattle.catalogue.specs.Plan.{Plan, items_of}
+use Rattle.catalogue.specs.Plan.{Plan, items_of, script_at}
 use Rattle.catalogue.specs.declared.actor.Actor.{Actor}
 use Rattle.core_model.specs.declared.phase.Phase.{Phase}
 use Rattle.core_model.specs.declared.phase.Phase.TheVariants.{Ready, Locking, Aborting, Installing}
@@ -19,7 +19,7 @@ use Rattle.core_model.specs.Locks.{cold_ops, clashes, holder}
 use Rattle.core_model.specs.Decision.{pairs_from, greatest, next_sub}
 use Rattle.core_model.specs.Step.{moved, next_item, aborting, granted, refused, released, decided, installed_one, installed, step}
 use Rattle.core_model.specs.Run.{state_behind}
-use Rattle.core_model.specs.Facts.{Stands, FitsPhase, Facts, script_at, steps_now}
+use Rattle.core_model.specs.Facts.{Stands, FitsPhase, Facts, steps_now}
 use Rattle.core_model.proofs.Runs.{by_moves}
 use Rattle.core_model.proofs.Fewer.{KeepsLocks, kept_by_fewer}
 use Rattle.core_model.proofs.Decided.{IsDistinct}

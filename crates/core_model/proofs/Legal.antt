@@ -14,12 +14,12 @@ use Rattle.history_model.proofs.ChainLaws.{run_from_chains}
 use Rattle.stage_layout.specs.Late.{is_hot}
 use Rattle.stage_layout.specs.declared.layout.LayoutRow.{LayoutRow}
 use Rattle.catalogue.proofs.SoundLaws.{sound_script}
-use Rattle.catalogue.specs.Plan.{Plan, script_of, kind_of}
+use Rattle.catalogue.specs.Plan.{Plan, script_of, kind_of, script_at}
 use Rattle.catalogue.specs.Sound.{IsSound}
 use Rattle.catalogue.specs.declared.kind.Kind.TheVariants.{Hot, Warm, Cold}
 use Rattle.core_model.specs.declared.phase.Phase.TheVariants.{Installing, Finished}
 use Rattle.core_model.specs.Ends.{HasEnds}
-use Rattle.core_model.specs.Facts.{script_at, script_of_entry, answered}
+use Rattle.core_model.specs.Facts.{script_of_entry, answered}
 use Rattle.core_model.specs.Laws.{IsCold, IsReached, HasLegalHistory, IsFinished, HasSerialValues, HasItemsInOrder, HasNoLoss, EachCanMove, IsBounded}
 use Rattle.core_model.specs.Run.{state_of, opening}
 use Rattle.core_model.specs.State.{ClientState, State, at_item, zero_stamp, client_at}

@@ -2,11 +2,10 @@
 use Rattle.std.proofs.Common.{◌≡◌, ℕ, suc, ◌+◌, ◌<◌, ◌≤◌, List, [], ◌∷◌, ◌++◌, length, length-set, Option, Some, None, refl, ap, ◌∙◌, arith}
 use Rattle.std.specs.Option.{option_and_then}
 use Rattle.std.proofs.lemmas.List.{length-map}
-use Rattle.catalogue.specs.Plan.{Plan}
+use Rattle.catalogue.specs.Plan.{Plan, script_at}
 use Rattle.catalogue.specs.Sound.{IsSound}
 use Rattle.catalogue.specs.declared.actor.Actor.{Actor}
 use Rattle.core_model.specs.Bound.{moves_left, move_bound}
-use Rattle.core_model.specs.Facts.{script_at}
 use Rattle.core_model.specs.Laws.{IsCold, IsReached}
 use Rattle.core_model.specs.Run.{opening, state_behind, state_of}
 use Rattle.core_model.specs.State.{State, client_at, script_now}

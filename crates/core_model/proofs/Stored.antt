@@ -13,10 +13,9 @@ use Rattle.txn_model.specs.declared.op.Op.{Op}
 use Rattle.txn_model.specs.declared.op.TupleId.{TupleId}
 use Rattle.txn_model.specs.declared.stamp.Seen.{Seen}
 use Rattle.txn_model.proofs.TupleOrder.{tuple_cmp_total}
-use Rattle.catalogue.specs.Plan.{Plan, script_of}
+use Rattle.catalogue.specs.Plan.{Plan, script_of, script_at}
 use Rattle.catalogue.specs.Sound.{IsSound}
 use Rattle.catalogue.proofs.SoundLaws.{sound_script}
-use Rattle.core_model.specs.Facts.{script_at}
 use Rattle.core_model.specs.Laws.{IsReached}
 use Rattle.core_model.specs.Run.{opening, state_of}
 use Rattle.core_model.specs.State.{State, Store, client_at, first_seen, script_now, seen_at}

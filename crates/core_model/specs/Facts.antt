@@ -9,7 +9,7 @@ use Rattle.txn_model.specs.declared.pairs.Pair.{Pair}
 use Rattle.txn_model.specs.declared.stamp.Seen.{Seen}
 use Rattle.history_model.specs.Chain.{Answered, Step, all_steps, HasChains, last_value}
 use Rattle.history_model.specs.History.{HistoryEntry, History, IsInStampOrder}
-use Rattle.catalogue.specs.Plan.{Plan, script_of}
+use Rattle.catalogue.specs.Plan.{Plan, script_at}
 use Rattle.core_model.specs.declared.phase.Phase.{Phase}
 use Rattle.core_model.specs.declared.phase.Phase.TheVariants.{Ready, Locking, Aborting, Logged, Waiting, Installing, Finished}
 use Rattle.core_model.specs.State.{ClientState, Store, seen_at, script_now}
@@ -20,10 +20,6 @@ use Rattle.core_model.specs.StampOrder.{AtMost}
 -- each client's state, by its number
 abbrev pub Clients : Type 0
 Clients = ℕ → ClientState
-
--- the script of an item; no operations where it has none
-abbrev pub script_at : Plan → ℕ → ℕ → List Op
-script_at plan client seq = unwrap_or (script_of plan client seq) []
 
 abbrev pub script_of_entry : Plan → HistoryEntry → List Op
 script_of_entry plan e = script_at plan e.entry.client e.entry.seq

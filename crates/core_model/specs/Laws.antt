@@ -8,14 +8,13 @@ use Rattle.txn_model.specs.declared.op.TupleId.{TupleId}
 use Rattle.history_model.specs.History.{IsInStampOrder, AllAnswered}
 use Rattle.history_model.specs.InOrder.{seqs_of}
 use Rattle.history_model.specs.Legal.{IsLegal, scripts_of}
-use Rattle.catalogue.specs.Plan.{Plan, PlainItem, item_of, script_in, script_of, kind_of}
+use Rattle.catalogue.specs.Plan.{Plan, PlainItem, item_of, script_in, script_of, kind_of, script_at}
 use Rattle.catalogue.specs.Sound.{IsSound}
 use Rattle.catalogue.specs.declared.actor.Actor.{Actor}
 use Rattle.catalogue.specs.declared.actor.Actor.TheVariants.{Client}
 use Rattle.catalogue.specs.declared.kind.Kind.TheVariants.{Cold}
 use Rattle.core_model.specs.declared.phase.Phase.TheVariants.{Installing, Finished}
 use Rattle.core_model.specs.Bound.{moves_left, move_bound}
-use Rattle.core_model.specs.Facts.{script_at}
 use Rattle.core_model.specs.Run.{state_of}
 use Rattle.core_model.specs.Step.{step}
 use Rattle.core_model.specs.State.{ClientState, State, client_at, seen_at}

@@ -2,7 +2,6 @@ pub mod Asks
 pub mod Clients
 pub mod Counts
 pub mod Decides
-pub mod Entries
 pub mod FewLocks
 pub mod Held
 pub mod Installs

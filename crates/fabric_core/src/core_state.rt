@@ -16,7 +16,7 @@ ghost use Rattle.fabric_core.specs.Standing.{StandsFor, IsTurnIn, IsActionIn, Fo
 
 use crate::first::{first_clients, tuple_ids};
 use crate::room::item_count;
-use catalogue::{Item, Session};
+use catalogue::Session;
 use client_phase::{Action, ClientState};
 use core_model::Refusal;
 use history_core::History;
@@ -61,7 +61,7 @@ impl CoreState {
             → MatchBool result (Follows (plan_of session.now) s client self.new)
             ((model.step (plan_of session.now) s (Client client) ≡ None) × (self.new ≡ self.old)) }
     {
-        let Some(script) = script_of(session, client, self.clients[client as usize].seq) else {
+        let Some(script) = session.script(client, self.clients[client as usize].seq) else {
             return false;
         };
         match self.clients[client as usize].next_action(script.len()) {
@@ -137,16 +137,6 @@ impl CoreState {
         self.store.install(op.tuple, pair.now, state.last);
         self.locks.unlock(op.tuple, client);
         state.install(script.len() as u8, session.items(client));
-    }
-}
-
-/// The script of a client's item; None exactly where there is no such item, or it isn't a transaction.
-fn script_of(session: &Session, client: u8, seq: u32) -> Option<&Script>
-    ensures { option_map (λ script. script.now.items) result ≡ script_of (plan_of session.now) client seq }
-{
-    match session.item(client, seq) {
-        Some(Item::Run(script)) => Some(script),
-        Some(Item::Lose) | None => None,
     }
 }
 

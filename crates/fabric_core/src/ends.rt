@@ -51,11 +51,7 @@ pub(crate) fn loss_end(seq: u32, present: u32) -> ItemEnd
 fn stamp_of(history: &History, client: u8, seq: u32) -> Option<Stamp>
     ensures { result ≡ option_map (λ e. e.entry.stamp) (ends.entry_of client seq history.now.items) }
 {
-    for i in 0..history.len() {
-        let (entry, _) = history.get(i);
-        if entry.client == client && entry.seq == seq {
-            return Some(entry.stamp);
-        }
-    }
-    None
+    let at = history.find(client, seq)?;
+    let (entry, _) = history.get(at);
+    Some(entry.stamp)
 }

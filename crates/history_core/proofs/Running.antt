@@ -8,7 +8,7 @@ use Rattle.txn_model.specs.Tuples.{Tuples}
 use Rattle.txn_model.specs.declared.op.Op.{Op}
 use Rattle.txn_model.specs.declared.pairs.Pair.{Pair}
 use Rattle.txn_model.proofs.SerialLaws.{there-serial_from}
-use Rattle.catalogue.specs.Plan.{Plan, script_of}
+use Rattle.catalogue.specs.Plan.{Plan, script_of, script_at}
 use Rattle.catalogue.specs.Sound.{IsSound}
 use Rattle.catalogue.proofs.SoundLaws.{sound_script}
 use Rattle.history_model.specs.History.{HistoryEntry, History}
@@ -16,7 +16,6 @@ use Rattle.history_model.specs.Legal.{HasReply, IsLegal}
 use Rattle.history_model.specs.declared.entry.Entry.{Entry}
 use Rattle.history_core.specs.Entries.{plain_entry, plain_entries}
 use Rattle.history_core.specs.Reply.{pairs_of}
-use Rattle.history_core.specs.Scripts.{script_at}
 use Rattle.history_core.specs.declared.reply.Reply.{Reply}
 use Rattle.history_core.proofs.Beside.{plain-next}
 

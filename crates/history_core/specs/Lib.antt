@@ -1,4 +1,3 @@
 pub mod Reply
 pub mod Entries
 pub mod Answers
-pub mod Scripts

@@ -10,7 +10,7 @@ ghost use Rattle.history_model.specs.History.{with_entry, entry_cmp};
 ghost use Rattle.history_model.specs.Legal.{IsLegal};
 ghost use Rattle.history_core.specs.Answers.{is_of_item, reply_of, with_reply, answered_ones};
 ghost use Rattle.history_core.specs.Entries.{plain_entries};
-ghost use Rattle.history_core.specs.Scripts.{script_at};
+ghost use Rattle.catalogue.specs.Plan.{script_at};
 
 use crate::legal::are_legal;
 use crate::reply::{MOST_PAIRS, Reply};

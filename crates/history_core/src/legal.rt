@@ -4,29 +4,18 @@ ghost use Rattle.std.specs.Prelude.{◌≡◌, ◌↔◌, length, All, IfOk, OnO
 ghost use Rattle.std.specs.Option.{option_map};
 ghost use Rattle.std.specs.FinMap.{get};
 ghost use Rattle.txn_model.specs.Serial.{serial};
-ghost use Rattle.catalogue.specs.Plan.{script_of};
+ghost use Rattle.catalogue.specs.Plan.{script_of, script_at};
 ghost use Rattle.catalogue.specs.PlanOf.{plan_of};
 ghost use Rattle.catalogue.specs.Sound.{IsSound};
 ghost use Rattle.history_model.specs.Legal.{HasReply, IsLegal};
 ghost use Rattle.history_core.specs.Entries.{plain_entries};
 ghost use Rattle.history_core.specs.Reply.{pairs_of};
-ghost use Rattle.history_core.specs.Scripts.{script_at};
 
 use crate::reply::Reply;
-use catalogue::{Item, Session};
+use catalogue::Session;
 use history_model::Entry;
 use std::alloc::Global;
-use txn_model::{NoMemory, Pair, Pairs, Script, TupleMap, run_serial};
-
-/// The script of a client's item; None where it is no transaction.
-fn script_of(session: &Session, client: u8, seq: u32) -> Option<&Script>
-    ensures { option_map (λ script. script.now.items) result ≡ script_of (plan_of session.now) client seq }
-{
-    match session.item(client, seq) {
-        Some(Item::Run(script)) => Some(script),
-        Some(Item::Lose) | None => None,
-    }
-}
+use txn_model::{NoMemory, Pair, Pairs, TupleMap, run_serial};
 
 /// Runs the script of an entry's item; `tuples` becomes the map that it leaves. Where the item is no
 /// transaction, nothing is run.
@@ -41,7 +30,7 @@ fn run_item(
     ensures reply { IfOk result (λ pairs. pairs.items ≡ (serial (script_at (plan_of session.now) entry.now.client entry.now.seq) tuples.old).reply) }
     ensures tuples { OnOk result (tuples.new ≡ (serial (script_at (plan_of session.now) entry.now.client entry.now.seq) tuples.old).after) }
 {
-    let Some(script) = script_of(session, entry.client, entry.seq) else {
+    let Some(script) = session.script(entry.client, entry.seq) else {
         return Pairs::zeros(alloc, 0);
     };
     let mut pairs = Pairs::zeros(alloc, script.len() as u8)?;

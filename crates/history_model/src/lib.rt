@@ -7,9 +7,11 @@
 
 mod entry;
 mod laws;
+mod stamp;
 
 pub use entry::Entry;
 pub use laws::{insertion_keeps_replies, serial_runs_are_chains};
+pub use stamp::greater;
 
 #[cfg(test)]
 mod tests;

@@ -6,9 +6,9 @@ ghost use Rattle.std.specs.declared.cmp.Ordering.TheVariants.{Equal};
 ghost use Rattle.std.specs.FinMap.{get, find, is_sorted};
 ghost use Rattle.txn_model.specs.Tuples.{tuple_cmp};
 ghost use Rattle.txn_model.specs.declared.op.TupleId.{TupleId};
-ghost use Rattle.history_model.specs.History.{greater};
 ghost use Rattle.host_store.specs.Store.{first_seen, seen_at, installed};
 
+use history_model::greater;
 use std::alloc::Global;
 use std::marker::Model;
 use txn_model::{NoMemory, Seen, Stamp, TupleId, TupleMap};
@@ -103,10 +103,4 @@ fn place_of(rows: &[(TupleId, Seen)], tuple: TupleId) -> usize
         Ok(at) => at,
         Err(_) => unreachable!(),
     }
-}
-
-fn greater(a: Stamp, b: Stamp) -> Stamp
-    ensures { result ≡ greater a b }
-{
-    if a < b { b } else { a }
 }

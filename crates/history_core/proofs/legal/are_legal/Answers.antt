@@ -1,7 +1,7 @@
 use Rattle.std.proofs.Common.{get_or, refl, ◌∙◌}
 use Rattle.catalogue.specs.PlanOf.{plan_of}
 use Rattle.history_model.specs.declared.entry.Entry.{Entry}
-use Rattle.history_core.specs.Scripts.{script_at}
+use Rattle.catalogue.specs.Plan.{script_at}
 use Rattle.history_core.proofs.Running.{there_at, all_there, there_after, ended, goes_on, agreed}
 use Rattle.history_core.proofs.legal.are_legal.Goals as goal
 

@@ -5,7 +5,7 @@ use Rattle.txn_model.specs.declared.op.Op.{Op}
 use Rattle.catalogue.specs.PlanOf.{plan_of}
 use Rattle.history_model.specs.Legal.{IsLegal}
 use Rattle.history_core.specs.Entries.{plain_entries}
-use Rattle.history_core.specs.Scripts.{script_at}
+use Rattle.catalogue.specs.Plan.{script_at}
 use Rattle.history_core.proofs.legal.are_legal.Given as goal
 
 -- all first tuples are still there, and what is left is legal from here on exactly where the whole is
