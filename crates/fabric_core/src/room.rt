@@ -8,7 +8,7 @@ ghost use Rattle.core_model.specs.Bound as bound;
 
 use catalogue::{Item, Session};
 
-/// The most moves that a run of the session takes.
+/// A bound on the moves of a run, as a sum over the session's items: no run of transactions on hosts makes more.
 pub fn move_bound(session: &Session) -> u32
     requires { IsSound (plan_of session.now) }
     ensures { result ≡ bound.move_bound (plan_of session.now) }
