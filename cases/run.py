@@ -11,6 +11,7 @@ A case is a folder with any of these files; what is absent is empty, and the sta
   stderr        what it must write to standard error, every byte
   status        the exit status
   seconds       how long it may take (else 60)
+or with the one file check.py, which is given the program and writes a line for each fault that it finds.
 """
 import pathlib
 import subprocess
@@ -43,7 +44,14 @@ def first_difference(got, wanted):
     return f"differs first at byte {at}: got {got[at:at + 60]!r}, wanted {wanted[at:at + 60]!r}"
 
 
+def faults_of_check(check, program):
+    ran = subprocess.run([sys.executable, "-B", str(check), program], stdout=subprocess.PIPE, text=True, timeout=600)
+    return ran.stdout.splitlines() + ([f"ended with status {ran.returncode}"] if ran.returncode else [])
+
+
 def faults_of(case, program, folder):
+    if (case / "check.py").is_file():
+        return faults_of_check(case / "check.py", program)
     words = content(case / "args").decode().splitlines()
     limit = float(content(case / "seconds").decode() or 60)
     stdin = stdin_of(case)
