@@ -5,7 +5,6 @@ use Rattle.catalogue.specs.Plan as plan
 use Rattle.catalogue.specs.Plan.{PlainItem}
 use Rattle.catalogue.specs.declared.item.Item.{Item}
 use Rattle.catalogue.specs.declared.item.Item.TheVariants.{Run, Lose}
-use Rattle.catalogue.specs.declared.item.TheConstants.{MOST_CLIENTS}
 
 abbrev pub plain_item : Item → PlainItem
 plain_item (Run script) = plan.Run script.items
@@ -19,5 +18,5 @@ plain_lists lists = map (λ list. plain_items list.items) lists
 
 -- at most 8 lists, each with fewer than 2^32 items
 pub record AreFew (lists : List (Vec Item Global)) : Type 0 where
-  pub clients : length lists ≤ MOST_CLIENTS
+  pub clients : length lists ≤ 8
   pub items : All (λ list. length list.items < 2 ^ 32) lists

@@ -10,8 +10,6 @@ use Rattle.stage_layout.specs.Shape.{IsShape}
 use Rattle.catalogue.specs.Plan.{Plan, PlainItem, Run, Lose}
 use Rattle.catalogue.specs.declared.actor.Actor.{Actor}
 use Rattle.catalogue.specs.declared.actor.Actor.TheVariants.{Client, Port, Stage, Recover}
-use Rattle.catalogue.specs.declared.item.TheConstants.{MOST_CLIENTS}
-use Rattle.catalogue.specs.declared.session.TheConstants.{MOST_TUPLES, MOST_ROWS, MOST_TRIES, MOST_ITEMS}
 
 -- how many items all clients have together
 abbrev pub item_count : Plan → ℕ
@@ -20,11 +18,11 @@ item_count plan = sum_by length plan.clients
 -- the limits on counts and numbers; those on scripts are a part of their faults
 pub record IsWithinLimits (plan : Plan) : Type 0 where
   pub shape : IsShape plan.shape
-  pub tuples : fin.len plan.tuples ≤ MOST_TUPLES
-  pub rows : length plan.layout ≤ MOST_ROWS
-  pub tries : (1 ≤ plan.tries) × (plan.tries ≤ MOST_TRIES)
-  pub clients : length plan.clients ≤ MOST_CLIENTS
-  pub items : item_count plan ≤ MOST_ITEMS
+  pub tuples : fin.len plan.tuples ≤ 65536
+  pub rows : length plan.layout ≤ 65536
+  pub tries : (1 ≤ plan.tries) × (plan.tries ≤ 16)
+  pub clients : length plan.clients ≤ 8
+  pub items : item_count plan ≤ 4096
 
 -- the script can be run in the session: on tuples that are there, without a fault, in one visit of the switch
 pub record IsFit (plan : Plan) (ops : List Op) : Type 0 where

@@ -58,7 +58,7 @@ impl Clients {
 
     /// The clients with these lists of items.
     pub fn of(lists: Vec<Vec<Item>>) -> Clients
-        requires few { length lists.items ≤ MOST_CLIENTS }
+        requires few { length lists.items ≤ 8 }
         requires short { All (λ list. length list.items < 2 ^ 32) lists.items }
         ensures { result ≡ plain_lists lists.items }
     {
@@ -68,7 +68,7 @@ impl Clients {
     /// How many clients there are: 0 to 8.
     pub fn len(&self) -> u8
         ensures value { result ≡ length self.now }
-        ensures bound { length self.now ≤ MOST_CLIENTS }
+        ensures bound { length self.now ≤ 8 }
     {
         self.lists.len() as u8
     }

@@ -24,7 +24,7 @@ fn script(alloc: Global, tuples: &[u32]) -> Result<Script, AllocError> {
         ops.push(Op {
             tuple: TupleId(*tuple),
             act: Act::Read,
-            needs: Needs::Zero,
+            needs: Needs::none(),
         })?;
     }
     Ok(Script::of(ops))

@@ -13,7 +13,7 @@ use Rattle.core_model.specs.State.{zero_stamp}
 use Rattle.core_model.specs.StampOrder.{AtMost}
 use Rattle.client_phase.specs.Shown.{noted_pairs, read_pairs, taking_pairs}
 use Rattle.client_phase.proofs.Fills.{found}
-use Rattle.core_model.proofs.Stamps.{AtMost-refl, AtMost-trans, AtMost-greater_left, AtMost-greater_right, stamp_cmp_cases}
+use Rattle.core_model.proofs.Stamps.{AtMost-refl, AtMost-trans, AtMost-antisym, AtMost-zero, AtMost-greater_left, AtMost-greater_right, stamp_cmp_cases}
 
 zeros : (ops : List Op) → replicate (length ops) ZERO ≡ read_pairs ops []
 zeros [] = refl
@@ -81,15 +81,6 @@ pub greatest_more : (noted : List Seen) (seen : Seen) (stamp : Stamp) → greate
 greatest_more [] seen stamp = refl
 greatest_more (first ∷ noted) seen stamp = greatest_more noted seen (greater stamp first.stamp)
 
-same_stamp : (a b : Stamp) → a.number ≡ b.number → a.sub ≡ b.sub → a ≡ b
-same_stamp a b n s = ap (λ (k : ℕ). record { number = k; sub = a.sub }) n ∙ ap (λ (k : ℕ). record { number = b.number; sub = k }) s
-
-AtMost-antisym : (a b : Stamp) → AtMost a b → AtMost b a → a ≡ b
-AtMost-antisym a b (inl p) (inl q) = absurd (omega arith)
-AtMost-antisym a b (inl p) (inr q) = absurd (omega arith)
-AtMost-antisym a b (inr p) (inl q) = absurd (omega arith)
-AtMost-antisym a b (inr p) (inr q) = same_stamp a b p.0 (omega arith)
-
 pub greater_is : (a b : Stamp) → (greater a b ≡ b) ⊎ (greater a b ≡ a)
 greater_is a b = elim (stamp_cmp_cases a b) [
   | inl h ↦ inl (ap (λ (r : Ordering). if is_lt r then b else a) h.0)
@@ -114,11 +105,7 @@ greater-assoc a b c =
     (greater-least a (greater b c) l (AtMost-trans a (greater a b) l (AtMost-greater_left a b) ab) (greater-least b c l (AtMost-trans b (greater a b) l (AtMost-greater_right a b) ab) (AtMost-greater_right (greater a b) c)))
 
 zero_first : (a : Stamp) → AtMost zero_stamp a
-zero_first a = first a.number refl
-  where
-    first : (n : ℕ) → a.number ≡ n → AtMost zero_stamp a
-    first zero e = inr (sym e, omega arith)
-    first (suc n) e = inl (omega arith)
+zero_first a = AtMost-zero a
 
 greater-zero : (a : Stamp) → greater a zero_stamp ≡ a
 greater-zero a = AtMost-antisym (greater a zero_stamp) a (greater-least a zero_stamp a (AtMost-refl a) (zero_first a)) (AtMost-greater_left a zero_stamp)

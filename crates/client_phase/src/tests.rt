@@ -21,15 +21,15 @@ fn moves_five(alloc: Global) -> Result<Script, AllocError> {
     let add = Op {
         tuple: TupleId(1),
         act: Act::Add { base: 5 },
-        needs: Needs::Zero,
+        needs: Needs::none(),
     };
     let put = Op {
         tuple: TupleId(2),
         act: Act::Put { base: 1 },
-        needs: Needs::One(Need {
+        needs: Needs::of(&[Need {
             from: 0,
             which: Which::Moved,
-        }),
+        }]),
     };
     Ok(Script::of(Vec::from_slice(alloc, &[add, put])?))
 }

@@ -3,11 +3,18 @@ use Rattle.std.proofs.Common.{◌≡◌, ℕ, zero, suc, ◌-◌, ◌==◌, ◌&
 use Rattle.std.specs.List.{list_all}
 use Rattle.std.specs.Option.{option_and_then}
 use Rattle.txn_model.specs.declared.op.Op.{Op}
-use Rattle.catalogue.specs.Plan.{Plan, PlainItem, Run, Lose, items_of, item_of, script_in, kind_of}
+use Rattle.catalogue.specs.Plan.{Plan, PlainItem, Run, Lose, items_of, item_of, script_in, script_of, kind_of}
 use Rattle.catalogue.specs.declared.kind.Kind.{Kind}
 use Rattle.catalogue.specs.declared.kind.Kind.TheVariants.{Hot, Warm, Cold}
 use Rattle.core_model.specs.Built.{is_cold, is_cold_item, has_cold_items}
-use Rattle.core_model.specs.Laws.{IsCold, HasNoLoss}
+
+-- each transaction of the session is on tuples of hosts alone
+abbrev pub IsCold : Plan → Type 0
+IsCold plan = (client seq : ℕ) (ops : List Op) → script_of plan client seq ≡ Some ops → kind_of plan.layout ops ≡ Cold
+
+-- no item loses the switch
+abbrev pub HasNoLoss : Plan → Type 0
+HasNoLoss plan = (client seq : ℕ) (item : PlainItem) → item_of plan client seq ≡ Some item → IsSome (script_in item)
 
 both : (a b : Bool) → (a && b) ≡ true → (a ≡ true) × (b ≡ true)
 both true b e = (refl, e)

@@ -1,5 +1,5 @@
 -- A script on hosts that is decided.
-use Rattle.std.proofs.Common.{◌≡◌, ◌≢◌, ℕ, zero, suc, ℤ, ◌<◌, ◌==◌, Bool, true, false, List, [], ◌∷◌, ◌++◌, map, length, slice_get, unwrap_or, Some, option_map, inl, inr, refl, sym, ap, subst, ◌∙◌, arith, Ordering, Less, Equal, Greater, is_lt, if◌then◌else◌}
+use Rattle.std.proofs.Common.{◌≡◌, ◌≢◌, ◌⊎◌, ℕ, zero, suc, ℤ, ◌<◌, ◌==◌, Bool, true, false, List, [], ◌∷◌, ◌++◌, map, length, slice_get, unwrap_or, Some, option_map, inl, inr, refl, sym, ap, subst, ◌∙◌, arith, Ordering, Less, Equal, Greater, is_lt, if◌then◌else◌}
 use Rattle.std.specs.List.{AllByRecursion}
 use Rattle.std.specs.Ordering.{ordering_then, ordering_reverse}
 use Rattle.std.specs.FinMap.{nat_cmp-IsAntisymmetric}
@@ -16,13 +16,13 @@ use Rattle.history_model.specs.Chain.{Answered, Step, steps_of, all_steps, Chain
 use Rattle.history_model.specs.History.{HistoryEntry, History, entry_cmp, with_entry}
 use Rattle.history_model.proofs.InsertionLaws.{Inserted, inserted, absent_chain, quiet_last}
 use Rattle.history_model.proofs.Insertion.{all_steps-append, local_append}
-use Rattle.catalogue.specs.Plan.{Plan}
+use Rattle.catalogue.specs.Plan.{Plan, script_at}
 use Rattle.core_model.specs.declared.phase.Phase.TheVariants.{Installing}
 use Rattle.core_model.specs.State.{ClientState, Store, seen_at, script_now}
 use Rattle.core_model.specs.Locks.{cold_ops}
 use Rattle.core_model.specs.Decision.{pairs_from, greatest, next_sub}
 use Rattle.core_model.specs.StampOrder.{AtMost}
-use Rattle.core_model.specs.Facts.{Clients, Stands, NoOpenWriter, FitsPhase, Facts, steps_now, script_of_entry, answered, writes}
+use Rattle.core_model.specs.Facts.{Clients, Stands, IsOpen, NoOpenWriter, FitsPhase, Facts, steps_now, script_of_entry, answered, writes}
 use Rattle.core_model.proofs.Stamps.{AtMost-refl, AtMost-trans, AtMost-from_Below, Below-from_AtMost, Below-next_sub, AtMost-greatest, noted_at_most, entry_cmp-Below}
 use Rattle.core_model.proofs.Entries.{Placed, placed, not_behind, sorted-with_entry, entry_cmp_total}
 use Rattle.core_model.proofs.Decided.{IsDistinct, length-pairs_from, local-pairs_from, chain-pairs_from, absent-steps_of}
@@ -149,6 +149,27 @@ module _ (plan : Plan) (at new : Clients) (store : Store) (h : History) (c : ℕ
   local_behind : AllByRecursion IsLocal (answered plan place.behind)
   local_behind = all_behind IsLocal (answered plan place.before) (answered plan place.behind) (subst (λ (l : List Answered). AllByRecursion IsLocal l) parts facts.chains.local)
 
+  -- while this script holds a lock, no decided script is about to change the tuple, and under an exclusive lock none holds it
+  no_open_writer : (f : HistoryEntry) (k : ℕ) (op : Op) → slice_get ops k ≡ Some op → IsOpen plan at f op.tuple → writes (script_of_entry plan f) op.tuple ≡ true → ⊥
+  no_open_writer f k op is o w = elim (same_or_not f.entry.client c) [
+    | inl e ↦ undecided (subst (λ (x : ℕ). (at x).phase ≡ Installing) e o.phase)
+    | inr n ↦
+        let script = ap (λ (q : ℕ). script_at plan f.entry.client q) o.seq in
+        let place = ap (λ (l : List Op). slice_get l o.k) (sym (cold f.entry.client)) ∙ o.stands.is in
+        differ (facts.apart f.entry.client c o.k k o.op op n o.stands (lock k op is) o.on)
+        (writes_by (script_now plan f.entry.client (at f.entry.client)) op.tuple o.k o.op (distinct f.entry.client) place o.on (subst (λ (l : List Op). writes l op.tuple ≡ true) script w))
+  ]
+
+  no_open_namer : (f : HistoryEntry) (k : ℕ) (op : Op) → slice_get ops k ≡ Some op → is_read op.act ≡ false → IsOpen plan at f op.tuple → ⊥
+  no_open_namer f k op is write o = elim (same_or_not f.entry.client c) [
+    | inl e ↦ undecided (subst (λ (x : ℕ). (at x).phase ≡ Installing) e o.phase)
+    | inr n ↦ differ (facts.apart c f.entry.client k o.k op o.op (λ e. n (sym e)) (lock k op is) o.stands (turned_test o.op.tuple.0 op.tuple.0 o.on)) write
+  ]
+
+  unless_open : {P : Type 0} (f : HistoryEntry) (k : ℕ) (op : Op) → slice_get ops k ≡ Some op → (IsOpen plan at f op.tuple → ⊥) → IsOpen plan at f op.tuple ⊎ P → P
+  unless_open f k op is none (inl o) = absurd (none o)
+  unless_open f k op is none (inr p) = p
+
   -- the new entry may stand before those behind it
   may : (t : TupleId) → MayStandBefore t steps (all_steps (answered plan place.behind))
   may t = elim (names ops t) as (λ b. names ops t ≡ b → MayStandBefore t steps (all_steps (answered plan place.behind))) [
@@ -160,11 +181,11 @@ module _ (plan : Plan) (at new : Clients) (store : Store) (h : History) (c : ℕ
         elim (is_read on.op.act) as (λ r. is_read on.op.act ≡ r → MayStandBefore t steps (all_steps (answered plan place.behind))) [
           | true ↦ λ read. inr (inl (
             quiet-steps_of t [] ops reply local (unless_read ops t on.k on.op (distinct c) on.at on.on read),
-            quiet-answered plan t place.behind local_behind (pair_up place.behind (λ f low behind. unless (writes (script_of_entry plan f) t) (λ w. too_low f seen.0 on.k seen.1 (low (ap (λ (x : TupleId). writes (script_of_entry plan f) x) tuple ∙ w)) behind))
-                (behind_facts _ (facts.writers c on.k on.op seen.0 (lock on.k on.op on.at) undecided seen.1)) place.above),
+            quiet-answered plan t place.behind local_behind (pair_up place.behind (λ f low behind. unless (writes (script_of_entry plan f) t) (λ w. let wo = ap (λ (x : TupleId). writes (script_of_entry plan f) x) tuple ∙ w in too_low f seen.0 on.k seen.1 (unless_open f on.k on.op on.at (λ o. no_open_writer f on.k on.op on.at o wo) (low wo)) behind))
+                (behind_facts _ (facts.writers c on.k on.op seen.0 (lock on.k on.op on.at) seen.1)) place.above),
           ))
-          | false ↦ λ read. inr (inr (absent-answered plan t place.behind (pair_up place.behind (λ f low behind. unless (names (script_of_entry plan f) t) (λ w. too_low f seen.0 on.k seen.1 (low (ap (λ (x : TupleId). names (script_of_entry plan f) x) tuple ∙ w)) behind))
-              (behind_facts _ (facts.namers c on.k on.op seen.0 (lock on.k on.op on.at) undecided read seen.1)) place.above)))
+          | false ↦ λ read. inr (inr (absent-answered plan t place.behind (pair_up place.behind (λ f low behind. unless (names (script_of_entry plan f) t) (λ w. too_low f seen.0 on.k seen.1 (unless_open f on.k on.op on.at (λ o. no_open_namer f on.k on.op on.at read o) (low (ap (λ (x : TupleId). names (script_of_entry plan f) x) tuple ∙ w))) behind))
+              (behind_facts _ (facts.namers c on.k on.op seen.0 (lock on.k on.op on.at) read seen.1)) place.above)))
         ] refl
   ] refl
 
@@ -221,12 +242,6 @@ module _ (plan : Plan) (at new : Clients) (store : Store) (h : History) (c : ℕ
   phase_new : (new c).phase ≡ Installing
   phase_new = ap (λ (x : ClientState). x.phase) mine
 
-  not_mine : (d : ℕ) → (new d).phase ≢ Installing → d ≢ c
-  not_mine d n e = n (subst (λ (x : ℕ). (new x).phase ≡ Installing) (sym e) phase_new)
-
-  undecided_old : (d : ℕ) → (new d).phase ≢ Installing → (at d).phase ≢ Installing
-  undecided_old d n i = n (ap (λ (x : ClientState). x.phase) (others d (not_mine d n)) ∙ i)
-
   decided_old : (d : ℕ) → (at d).phase ≡ Installing → new d ≡ at d
   decided_old d i = elim (same_or_not d c) [
     | inl e ↦ absurd (undecided (subst (λ (x : ℕ). (at x).phase ≡ Installing) e i))
@@ -237,12 +252,7 @@ module _ (plan : Plan) (at new : Clients) (store : Store) (h : History) (c : ℕ
   steps_new : steps_now plan c (new c) ≡ steps
   steps_new = ap (steps_now plan c) mine ∙ cold_steps-all plan.layout ops reply (hosts c)
 
-  -- this script doesn't change a tuple on which another client has a lock, and doesn't name one that is held exclusively
-  others_read : (d k : ℕ) (op : Op) → d ≢ c → Stands plan d (at d) k op → writes ops op.tuple ≡ true → ⊥
-  others_read d k op n st w =
-      let on = named ops op.tuple (names-from_writes ops op.tuple w) in
-      differ (facts.apart c d on.k k on.op op (λ e. n (sym e)) (lock on.k on.op on.at) st on.on) (writes_by ops op.tuple on.k on.op (distinct c) on.at on.on w)
-
+  -- this script doesn't name a tuple that another client holds exclusively
   others_apart : (d k : ℕ) (op : Op) → d ≢ c → Stands plan d (at d) k op → is_read op.act ≡ false → names ops op.tuple ≡ true → ⊥
   others_apart d k op n st x w =
       let on = named ops op.tuple w in
@@ -270,6 +280,14 @@ module _ (plan : Plan) (at new : Clients) (store : Store) (h : History) (c : ℕ
         ∙ facts.changed d k op p old (ap (λ (y : ClientState). y.phase) (sym (others d n)) ∙ i) x (subst (λ (y : ClientState). slice_get (steps_now plan d y) k ≡ Some (op, p)) (others d n) is)
   ]
 
+  -- an open entry stays open, and the new entry is open at each tuple that it names
+  still_open : {P : Type 0} (e : HistoryEntry) (t : TupleId) → IsOpen plan at e t ⊎ P → IsOpen plan new e t ⊎ P
+  still_open e t (inl o) = inl (open_stays plan at new e t (decided_old e.entry.client o.phase) o)
+  still_open e t (inr p) = inr p
+
+  open_new : (t : TupleId) → names ops t ≡ true → IsOpen plan new entry t
+  open_new t n = let on = named ops t n in record { phase = phase_new; seq = ap (λ (x : ClientState). x.seq) (sym mine); k = on.k; op = on.op; stands = lock_new on.k on.op on.at; on = on.on }
+
   pub kept_by_decision : Facts plan new store history
   kept_by_decision = record {
     fits = λ d. elim (same_or_not d c) [
@@ -279,15 +297,13 @@ module _ (plan : Plan) (at new : Clients) (store : Store) (h : History) (c : ℕ
     ];
     apart = λ a b k j op other n sa sb e. facts.apart a b k j op other n (stood plan at new c others keeps a k op sa) (stood plan at new c others keeps b j other sb) e;
     value = λ d k op seen st is. facts.value d k op seen (stood plan at new c others keeps d k op st) (was_noted plan at new c others keeps d k op seen st is);
-    writers = λ d k op seen st n is.
-        let old = stood plan at new c others keeps d k op st in
-        all-with_entry _ entry h (facts.writers d k op seen old (undecided_old d n) (was_noted plan at new c others keeps d k op seen st is)) (λ w. absurd (others_read d k op (not_mine d n) old w));
-    namers = λ d k op seen st n x is.
-        let old = stood plan at new c others keeps d k op st in
-        all-with_entry _ entry h (facts.namers d k op seen old (undecided_old d n) x (was_noted plan at new c others keeps d k op seen st is)) (λ w. absurd (others_apart d k op (not_mine d n) old x w));
-    settled = λ t. all-with_entry _ entry h
-        (each_entry h (λ e f n. elim (f n) [ inl o ↦ inl (open_stays plan at new e t (decided_old e.entry.client o.phase) o) | inr le ↦ inr le ]) (facts.settled t))
-        (λ n. let on = named ops t n in inl (record { phase = phase_new; seq = ap (λ (x : ClientState). x.seq) (sym mine); k = on.k; op = on.op; stands = lock_new on.k on.op on.at; on = on.on }));
+    writers = λ d k op seen st is. all-with_entry _ entry h
+        (each_entry h (λ e f w. still_open e op.tuple (f w)) (facts.writers d k op seen (stood plan at new c others keeps d k op st) (was_noted plan at new c others keeps d k op seen st is)))
+        (λ w. inl (open_new op.tuple (names-from_writes ops op.tuple w)));
+    namers = λ d k op seen st x is. all-with_entry _ entry h
+        (each_entry h (λ e f w. still_open e op.tuple (f w)) (facts.namers d k op seen (stood plan at new c others keeps d k op st) x (was_noted plan at new c others keeps d k op seen st is)))
+        (λ w. inl (open_new op.tuple w));
+    settled = λ t. all-with_entry _ entry h (each_entry h (λ e f n. still_open e t (f n)) (facts.settled t)) (λ n. inl (open_new t n));
     own = λ d. elim (same_or_not d c) [
       | inl e ↦ subst (λ (x : ℕ). AllByRecursion (λ f. f.entry.client ≡ x → AtMost f.entry.stamp (new x).last) history) (sym e)
           (subst (λ (y : ClientState). AllByRecursion (λ f. f.entry.client ≡ c → AtMost f.entry.stamp y.last) history) (sym mine)

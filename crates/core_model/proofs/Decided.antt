@@ -1,6 +1,8 @@
 -- The reply of a script whose operations find given values.
-use Rattle.std.proofs.Common.{◌≡◌, ℕ, suc, ℤ, Bool, true, false, ◌||◌, ◌==◌, List, [], ◌∷◌, ◌++◌, length, Option, Some, None, MatchBool, if◌then◌else◌, refl, sym, ap, subst, ◌∙◌, arith}
-use Rattle.std.specs.List.{list_any, AllByRecursion}
+use Rattle.std.proofs.Common.{◌≡◌, ℕ, suc, ◌+◌, ℤ, Bool, true, false, ◌||◌, ◌==◌, List, [], ◌∷◌, ◌++◌, length, length-append, take, Option, Some, None, MatchBool, if◌then◌else◌, refl, sym, ap, subst, ◌∙◌, arith}
+use Rattle.std.specs.List.{list_any, AllByRecursion, position_from, enumerate_from}
+use Rattle.std.proofs.Math.Seq.{take-append_seam}
+use Rattle.std.proofs.lemmas.List.{append_assoc}
 use Rattle.std.proofs.lemmas.Bool.Decides.{nat_tests}
 use Rattle.std.proofs.lemmas.List.Folds.{list_any-append}
 use Rattle.txn_model.specs.ScriptCheck.{names, first_repeat}
@@ -8,6 +10,7 @@ use Rattle.txn_model.specs.declared.op.Op.{Op}
 use Rattle.txn_model.specs.declared.op.TupleId.{TupleId}
 use Rattle.txn_model.specs.declared.pairs.Pair.{Pair}
 use Rattle.txn_model.specs.Serial.{pair_of}
+use Rattle.txn_model.proofs.FirstPlaces.{first_counted}
 use Rattle.history_model.specs.Chain.{Step, steps_of, Chain, IsLocalFrom, IsAbsent}
 use Rattle.history_model.proofs.InsertionLaws.{absent_chain}
 use Rattle.core_model.specs.Decision.{pairs_from}
@@ -82,10 +85,19 @@ front_differs : (earlier : List Op) (o : Op) (ys : List Op) → AllByRecursion (
 front_differs earlier o [] all = tt
 front_differs earlier o (y ∷ ys) all = ((names-last earlier o y.tuple all.0).0, front_differs earlier o ys all.1)
 
+-- the operation at this place of all names the tuple of an earlier one
+abbrev repeats : List Op → ℕ × Op → Bool
+repeats all at = names (take at.0 all) at.1.tuple
+
 -- behind operations that it doesn't repeat, a script with no repeat has distinct tuples that those don't name
-pub distinct_from : (earlier ops : List Op) → first_repeat earlier ops ≡ None → IsDistinct ops × AllByRecursion (λ op. names earlier op.tuple ≡ false) ops
-distinct_from earlier [] h = (tt, tt)
-distinct_from earlier (op ∷ ops) h =
-    let first = skip_if (names earlier op.tuple) (length earlier) (first_repeat (earlier ++ op ∷ []) ops) h in
-    let rest = distinct_from (earlier ++ op ∷ []) ops first.1 in
-    ((others_differ earlier op ops rest.1, rest.0), (first.0, front_differs earlier op ops rest.1))
+distinct_behind : (ops earlier all : List Op) (k : ℕ) → k ≡ length earlier → all ≡ earlier ++ ops → position_from (repeats all) k (enumerate_from k ops) ≡ None → IsDistinct ops × AllByRecursion (λ op. names earlier op.tuple ≡ false) ops
+distinct_behind [] earlier all k place is h = (tt, tt)
+distinct_behind (op ∷ ops) earlier all k place is h =
+    let first = skip_if (repeats all (k, op)) k (position_from (repeats all) (k + 1) (enumerate_from (k + 1) ops)) h in
+    let before : take k all ≡ earlier = ap (λ (xs : List Op). take k xs) is ∙ ap (λ (n : ℕ). take n (earlier ++ op ∷ ops)) place ∙ take-append_seam earlier (op ∷ ops) in
+    let unnamed = sym (ap (λ (xs : List Op). names xs op.tuple) before) ∙ first.0 in
+    let rest = distinct_behind ops (earlier ++ op ∷ []) all (k + 1) (omega (arith, place, length-append earlier (op ∷ []))) (is ∙ sym (append_assoc earlier (op ∷ []) ops)) first.1 in
+    ((others_differ earlier op ops rest.1, rest.0), (unnamed, front_differs earlier op ops rest.1))
+
+pub distinct_of : (ops : List Op) → first_repeat ops ≡ None → IsDistinct ops
+distinct_of ops none = (distinct_behind ops [] ops 0 refl refl (first_counted (repeats ops) (enumerate_from 0 ops) ∙ none)).0

@@ -12,12 +12,11 @@ use Rattle.core_model.specs.declared.phase.Phase.TheVariants.{Ready, Locking, Ab
 use Rattle.core_model.specs.Bound.{move_bound, moves_left}
 use Rattle.core_model.specs.Built.{has_cold_items}
 use Rattle.core_model.specs.Driven.{Finishes, IsRound}
-use Rattle.core_model.specs.Laws.{IsFinished, IsReached, HasNoLoss}
+use Rattle.core_model.specs.Laws.{IsFinished, IsReached}
 use Rattle.core_model.specs.Rota.{numbers_below, rota, is_finished, has_finished, all_finished, movers, after_turns, rotas, driven_from}
 use Rattle.core_model.specs.Run.{opening, state_behind}
 use Rattle.core_model.specs.State.{ClientState, State, at_item, zero_stamp}
 use Rattle.core_model.specs.Step.{step}
-use Rattle.core_model.proofs.Cold.{cold_from_items, no_loss_from_items}
 use Rattle.core_model.proofs.Legal.{none_stuck}
 use Rattle.core_model.proofs.Reached.{clients_stay, fewer_moves, left_within, opening_is_reached, reached_behind, reached_step}
 use Rattle.core_model.proofs.Turns.{IsAmong, among_left, behind_turns, movers_done, turns_done, movers-append, turns-append, some_mover, driven_parts}
@@ -94,45 +93,45 @@ pub reached_turns : (plan : Plan) (s : State) (actors : List Actor) → IsReache
 reached_turns plan s actors reached = reached_behind plan s (after_turns plan s actors) (movers plan s actors) reached (behind_turns plan s actors)
 
 -- a rota from an unfinished state leaves fewer moves
-pub rota_lessens : (plan : Plan) (s : State) → IsReached plan s → HasNoLoss plan → all_finished s ≡ false → moves_left plan (after_turns plan s (rota plan)) < moves_left plan s
-rota_lessens plan s reached none more =
+pub rota_lessens : (plan : Plan) (s : State) → IsReached plan s → all_finished s ≡ false → moves_left plan (after_turns plan s (rota plan)) < moves_left plan s
+rota_lessens plan s reached more =
     let open_client = some_unfinished s.clients more in
     let c = open_client.client in
     let among = client_in_rota plan c (omega (arith, open_client.within, clients_stay plan s reached)) in
-    omega (arith, left_behind plan s (after_turns plan s (rota plan)) (movers plan s (rota plan)) reached (behind_turns plan s (rota plan)), some_mover plan s (Client c) (rota plan) among more (none_stuck plan s reached none c open_client.within open_client.active))
+    omega (arith, left_behind plan s (after_turns plan s (rota plan)) (movers plan s (rota plan)) reached (behind_turns plan s (rota plan)), some_mover plan s (Client c) (rota plan) among more (none_stuck plan s reached c open_client.within open_client.active))
 
 -- so many rotas as moves are left finish
-pub rotas_finish : (plan : Plan) (n : ℕ) (s : State) → IsReached plan s → HasNoLoss plan → moves_left plan s ≤ n → all_finished (after_turns plan s (rotas plan n)) ≡ true
-rotas_finish plan zero s reached none few = by (all_finished s) refl
+pub rotas_finish : (plan : Plan) (n : ℕ) (s : State) → IsReached plan s → moves_left plan s ≤ n → all_finished (after_turns plan s (rotas plan n)) ≡ true
+rotas_finish plan zero s reached few = by (all_finished s) refl
   where
     by : (b : Bool) → all_finished s ≡ b → all_finished s ≡ true
     by true is = is
-    by false is = absurd (omega (arith, rota_lessens plan s reached none is))
-rotas_finish plan (suc n) s reached none few =
+    by false is = absurd (omega (arith, rota_lessens plan s reached is))
+rotas_finish plan (suc n) s reached few =
     ap all_finished (turns-append plan s (rota plan) (rotas plan n)) ∙ by (all_finished s) refl
-    (λ fewer. rotas_finish plan n (after_turns plan s (rota plan)) (reached_turns plan s (rota plan) reached) none fewer)
+    (λ fewer. rotas_finish plan n (after_turns plan s (rota plan)) (reached_turns plan s (rota plan) reached) fewer)
   where
     by : (b : Bool) → all_finished s ≡ b → (moves_left plan (after_turns plan s (rota plan)) ≤ n → all_finished (after_turns plan (after_turns plan s (rota plan)) (rotas plan n)) ≡ true) → all_finished (after_turns plan (after_turns plan s (rota plan)) (rotas plan n)) ≡ true
     by true is rest = ap (λ (z : State). all_finished (after_turns plan z (rotas plan n))) (turns_done plan s (rota plan) is) ∙ ap all_finished (turns_done plan s (rotas plan n) is) ∙ is
-    by false is rest = rest (omega (arith, rota_lessens plan s reached none is))
+    by false is rest = rest (omega (arith, rota_lessens plan s reached is))
 
 rotas-add : (plan : Plan) (n more : ℕ) → rotas plan (n + more) ≡ rotas plan n ++ rotas plan more
 rotas-add plan zero more = ap (rotas plan) {x = 0 + more} {y = more} (omega arith)
 rotas-add plan (suc n) more = ap (rotas plan) {x = suc n + more} {y = suc (n + more)} (omega arith) ∙ ap (λ (l : List Actor). rota plan ++ l) (rotas-add plan n more) ∙ sym (append_assoc (rota plan) (rotas plan n) (rotas plan more))
 
 -- and further ones add nothing
-pub more_rotas : (plan : Plan) (n more : ℕ) (s : State) → IsReached plan s → HasNoLoss plan → moves_left plan s ≤ n → movers plan s (rotas plan (n + more)) ≡ movers plan s (rotas plan n)
-more_rotas plan n more s reached none few =
+pub more_rotas : (plan : Plan) (n more : ℕ) (s : State) → IsReached plan s → moves_left plan s ≤ n → movers plan s (rotas plan (n + more)) ≡ movers plan s (rotas plan n)
+more_rotas plan n more s reached few =
     ap (movers plan s) (rotas-add plan n more) ∙ movers-append plan s (rotas plan n) (rotas plan more)
-    ∙ ap (λ (l : List Actor). movers plan s (rotas plan n) ++ l) (movers_done plan (after_turns plan s (rotas plan n)) (rotas plan more) (rotas_finish plan n s reached none few)) ∙ append-nil (movers plan s (rotas plan n))
+    ∙ ap (λ (l : List Actor). movers plan s (rotas plan n) ++ l) (movers_done plan (after_turns plan s (rotas plan n)) (rotas plan more) (rotas_finish plan n s reached few)) ∙ append-nil (movers plan s (rotas plan n))
 
 -- where the rota is taken again and again, taking it once more first changes nothing
-pub driven_again : (plan : Plan) (s : State) → IsReached plan s → HasNoLoss plan → driven_from plan s [] ≡ driven_from plan s (rota plan)
+pub driven_again : (plan : Plan) (s : State) → IsReached plan s → driven_from plan s [] ≡ driven_from plan s (rota plan)
 unfolding driven_from
-driven_again plan s reached none = sym (more_rotas plan (move_bound plan) 1 s reached none (left_within plan s reached)) ∙ ap (λ (n : ℕ). movers plan s (rotas plan n)) {x = move_bound plan + 1} {y = suc (move_bound plan)} (omega arith)
+driven_again plan s reached = sym (more_rotas plan (move_bound plan) 1 s reached (left_within plan s reached)) ∙ ap (λ (n : ℕ). movers plan s (rotas plan n)) {x = move_bound plan + 1} {y = suc (move_bound plan)} (omega arith)
 
-pub driven_round : (plan : Plan) (s : State) → IsReached plan s → HasNoLoss plan → driven_from plan s [] ≡ movers plan s (rota plan) ++ driven_from plan (after_turns plan s (rota plan)) []
-driven_round plan s reached none = driven_again plan s reached none ∙ driven_parts plan s (rota plan)
+pub driven_round : (plan : Plan) (s : State) → IsReached plan s → driven_from plan s [] ≡ movers plan s (rota plan) ++ driven_from plan (after_turns plan s (rota plan)) []
+driven_round plan s reached = driven_again plan s reached ∙ driven_parts plan s (rota plan)
 
 -- the state that is driven to
 abbrev pub driven_to : Plan → State → List Actor → State
@@ -142,21 +141,21 @@ pub behind_driven : (plan : Plan) (s : State) (actors : List Actor) → state_be
 unfolding driven_from
 behind_driven plan s actors = behind_turns plan s (actors ++ rotas plan (move_bound plan))
 
-pub driven_finishes : (plan : Plan) (s : State) (actors : List Actor) → IsReached plan s → HasNoLoss plan → all_finished (driven_to plan s actors) ≡ true
-driven_finishes plan s actors reached none =
+pub driven_finishes : (plan : Plan) (s : State) (actors : List Actor) → IsReached plan s → all_finished (driven_to plan s actors) ≡ true
+driven_finishes plan s actors reached =
     ap all_finished (turns-append plan s actors (rotas plan (move_bound plan)))
-    ∙ let reached_next = reached_turns plan s actors reached in rotas_finish plan (move_bound plan) (after_turns plan s actors) reached_next none (left_within plan (after_turns plan s actors) reached_next)
+    ∙ let reached_next = reached_turns plan s actors reached in rotas_finish plan (move_bound plan) (after_turns plan s actors) reached_next (left_within plan (after_turns plan s actors) reached_next)
 
-pub runs_finish : (plan : Plan) (s : State) (actors : List Actor) → IsReached plan s → HasNoLoss plan → Finishes plan s actors
-runs_finish plan s actors reached none = record { after = driven_to plan s actors; run = behind_driven plan s actors; finished = (finished_by_test (driven_to plan s actors)).0 (driven_finishes plan s actors reached none) }
+pub runs_finish : (plan : Plan) (s : State) (actors : List Actor) → IsReached plan s → Finishes plan s actors
+runs_finish plan s actors reached = record { after = driven_to plan s actors; run = behind_driven plan s actors; finished = (finished_by_test (driven_to plan s actors)).0 (driven_finishes plan s actors reached) }
 
 pub sessions_finish : (plan : Plan) → IsSound plan → has_cold_items plan ≡ true → Finishes plan (opening plan) plan.schedule
-sessions_finish plan sound cold = runs_finish plan (opening plan) plan.schedule (opening_is_reached plan sound (cold_from_items plan cold)) (no_loss_from_items plan cold)
+sessions_finish plan sound cold = runs_finish plan (opening plan) plan.schedule (opening_is_reached plan sound cold)
 
-pub round_of : (plan : Plan) (s : State) → IsReached plan s → HasNoLoss plan → all_finished s ≡ false → IsRound plan s
-round_of plan s reached none more = record {
+pub round_of : (plan : Plan) (s : State) → IsReached plan s → all_finished s ≡ false → IsRound plan s
+round_of plan s reached more = record {
   next = after_turns plan s (rota plan);
   run = behind_turns plan s (rota plan);
-  driven = driven_round plan s reached none;
-  fewer = rota_lessens plan s reached none more;
+  driven = driven_round plan s reached;
+  fewer = rota_lessens plan s reached more;
 }

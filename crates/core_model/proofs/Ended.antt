@@ -4,6 +4,7 @@ use Rattle.std.specs.List.{list_any, AllByRecursion}
 use Rattle.std.proofs.lemmas.Bool.Decides.{nat_tests}
 use Rattle.txn_model.specs.declared.op.Op.{Op}
 use Rattle.txn_model.specs.declared.stamp.Seen.{Seen}
+use Rattle.history_model.specs.History.{History}
 use Rattle.history_model.specs.InOrder.{seqs_of}
 use Rattle.catalogue.specs.Plan.{Plan, PlainItem, items_of, script_at}
 use Rattle.catalogue.specs.declared.actor.Actor.{Actor}
@@ -14,7 +15,7 @@ use Rattle.core_model.specs.Asking.{IsAsking}
 use Rattle.core_model.specs.Facts.{steps_now}
 use Rattle.core_model.specs.Run.{opening, first_clients, state_behind}
 use Rattle.core_model.specs.Laws.{IsPast, HasItemsInOrder}
-use Rattle.core_model.specs.Ends.{has_entry, refused_times}
+use Rattle.core_model.specs.Ends.{refused_times}
 use Rattle.core_model.specs.State.{ClientState, State, at_item, client_at, zero_stamp}
 use Rattle.core_model.specs.Step.{aborting, try_ended, next_item, granted, refused, released, decided, installed, installed_one}
 use Rattle.core_model.proofs.Runs.{by_moves}
@@ -25,6 +26,10 @@ use Rattle.core_model.proofs.StepsOf.{OnHosts}
 use Rattle.core_model.proofs.Kept.{Holds, kept_by_step}
 use Rattle.core_model.proofs.MoveKinds.{Move, Grants, Refuses, Releases, Decides, Installs, move_of, not_decided}
 use Rattle.core_model.proofs.Moves.{moved_client, others_stay}
+
+-- an item of the client has an entry
+abbrev pub has_entry : ℕ → ℕ → History → Bool
+has_entry c seq h = list_any (λ q. q == seq) (seqs_of c h)
 
 -- the refusal that a client in this phase aborts for
 abbrev pub in_abort : Phase → ℕ

@@ -69,9 +69,6 @@ module _ (plan : Plan) (at new : Clients) (store : Store) (h : History) (c : ℕ
     | inr n ↦ others d n
   ]
 
-  undecided : (d : ℕ) → (new d).phase ≢ Installing → (at d).phase ≢ Installing
-  undecided d n i = n (ap (λ (x : ClientState). x.phase) (decided_old d i) ∙ i)
-
   pub kept_by_fewer : Facts plan new store h
   kept_by_fewer = record {
     fits = λ d. elim (same_or_not d c) [
@@ -80,8 +77,10 @@ module _ (plan : Plan) (at new : Clients) (store : Store) (h : History) (c : ℕ
     ];
     apart = λ a b k j op other n sa sb e. facts.apart a b k j op other n (stood plan at new c others keeps a k op sa) (stood plan at new c others keeps b j other sb) e;
     value = λ d k op seen st is. facts.value d k op seen (stood plan at new c others keeps d k op st) (was_noted plan at new c others keeps d k op seen st is);
-    writers = λ d k op seen st n is. facts.writers d k op seen (stood plan at new c others keeps d k op st) (undecided d n) (was_noted plan at new c others keeps d k op seen st is);
-    namers = λ d k op seen st n x is. facts.namers d k op seen (stood plan at new c others keeps d k op st) (undecided d n) x (was_noted plan at new c others keeps d k op seen st is);
+    writers = λ d k op seen st is. each_entry h (λ e f w. elim (f w) [ inl o ↦ inl (open_stays plan at new e op.tuple (decided_old e.entry.client o.phase) o) | inr le ↦ inr le ])
+        (facts.writers d k op seen (stood plan at new c others keeps d k op st) (was_noted plan at new c others keeps d k op seen st is));
+    namers = λ d k op seen st x is. each_entry h (λ e f w. elim (f w) [ inl o ↦ inl (open_stays plan at new e op.tuple (decided_old e.entry.client o.phase) o) | inr le ↦ inr le ])
+        (facts.namers d k op seen (stood plan at new c others keeps d k op st) x (was_noted plan at new c others keeps d k op seen st is));
     settled = λ t. each_entry h (λ e f named. elim (f named) [ inl o ↦ inl (open_stays plan at new e t (decided_old e.entry.client o.phase) o) | inr le ↦ inr le ]) (facts.settled t);
     own = λ d. elim (same_or_not d c) [
       | inl e ↦ subst (λ (x : ℕ). AllByRecursion (λ f. f.entry.client ≡ x → AtMost f.entry.stamp (new x).last) h) (sym e) (each_entry h (λ f le is. subst (λ s. AtMost f.entry.stamp s) (sym last) (le is)) (facts.own c))

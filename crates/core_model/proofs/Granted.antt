@@ -1,5 +1,5 @@
 -- A lock that is granted.
-use Rattle.std.proofs.Common.{◌≡◌, ◌≢◌, ◌⊎◌, ℕ, zero, suc, ◌<◌, ◌≤◌, ◌==◌, ◌&&◌, ◌||◌, Bool, true, false, not, List, [], ◌∷◌, ◌++◌, length, slice_get, unwrap_or, Some, inl, inr, refl, sym, ap, subst, ◌∙◌, arith, length-append, true≢false}
+use Rattle.std.proofs.Common.{◌≡◌, ◌≢◌, ◌⊎◌, ℕ, zero, suc, ◌<◌, ◌≤◌, ◌==◌, ◌&&◌, ◌||◌, Bool, true, false, not, List, [], ◌∷◌, ◌++◌, length, slice_get, Some, inl, inr, refl, sym, ap, subst, ◌∙◌, arith, length-append, true≢false}
 use Rattle.std.specs.List.{AllByRecursion}
 use Rattle.std.proofs.lemmas.Option.{slice_get_within}
 use Rattle.std.proofs.lemmas.Bool.{cases_lt}
@@ -17,7 +17,6 @@ use Rattle.core_model.specs.StampOrder.{AtMost}
 use Rattle.core_model.specs.Facts.{Clients, Stands, IsOpen, FitsPhase, Facts, steps_now, script_of_entry, writes}
 use Rattle.core_model.proofs.Decided.{IsDistinct, same_names}
 use Rattle.core_model.proofs.Fewer.{OthersStay, same_or_not, each_entry, open_stays}
-use Rattle.catalogue.specs.Plan.{script_of}
 
 -- a test isn't both
 pub differ : {b : Bool} → b ≡ true → b ≡ false → ⊥
@@ -160,15 +159,10 @@ module _ (plan : Plan) (at new : Clients) (store : Store) (h : History) (c : ℕ
     | inr n ↦ inl (subst (λ (x : ClientState). slice_get x.noted k ≡ Some s) (others d n) is)
   ]
 
-  -- where a decided script's lock stands, it and the new one are both shared
-  open_reads : (e : HistoryEntry) → IsOpen plan at e op.tuple → (is_read op.act ≡ true) × (writes (script_of_entry plan e) op.tuple ≡ false)
-  open_reads e o = elim (same_or_not e.entry.client c) [
-    | inl same ↦ absurd (before (subst (λ (x : ℕ). (at x).phase ≡ Installing) same o.phase))
-    | inr other ↦
-        let reads = both_read op o.op (free e.entry.client o.k o.op other o.stands) (turned_test o.op.tuple.0 op.tuple.0 o.on) in
-        let script = ap (λ (n : ℕ). unwrap_or (script_of plan e.entry.client n) []) o.seq in
-        (reads.0, subst (λ (ops : List Op). writes ops op.tuple ≡ false) (sym script) (unless_read (script_now plan e.entry.client (at e.entry.client)) op.tuple o.k o.op (distinct e.entry.client) (sym (ap (λ (l : List Op). slice_get l o.k) (cold e.entry.client)) ∙ o.stands.is) o.on reads.1))
-  ]
+  -- an open entry stays open
+  still_open : {P : Type 0} (e : HistoryEntry) (t : TupleId) → IsOpen plan at e t ⊎ P → IsOpen plan new e t ⊎ P
+  still_open e t (inl o) = inl (open_stays plan at new e t (decided_old e.entry.client o.phase) o)
+  still_open e t (inr p) = inr p
 
   pub kept_by_grant : Facts plan new store h
   kept_by_grant = record {
@@ -196,35 +190,29 @@ module _ (plan : Plan) (at new : Clients) (store : Store) (h : History) (c : ℕ
         | inr nn ↦ ap (λ (x : Seen). x.value) nn.2 ∙ ap (λ (x : Op). (seen_at store x.tuple).value) (sym ns.2)
       ]
     ];
-    writers = λ d k o s st n is. elim (lock_of d k o st) [
+    writers = λ d k o s st is. elim (lock_of d k o st) [
       | inl hs ↦ elim (noted_of d k s is) [
-        | inl hn ↦ facts.writers d k o s hs (λ i. n (ap (λ (x : ClientState). x.phase) (decided_old d i) ∙ i)) hn
+        | inl hn ↦ each_entry h (λ e f w. still_open e o.tuple (f w)) (facts.writers d k o s hs hn)
         | inr nn ↦ absurd (past hs.to nn.0 nn.1)
       ]
       | inr ns ↦ elim (noted_of d k s is) [
         | inl hn ↦ absurd (past (slice_get_within (at d).noted k s hn) ns.0 ns.1)
-        | inr nn ↦ subst (λ (x : Op). AllByRecursion (λ e. writes (script_of_entry plan e) x.tuple ≡ true → AtMost e.entry.stamp s.stamp) h) (sym ns.2)
-            (each_entry h (λ e f w. subst (λ (x : Seen). AtMost e.entry.stamp x.stamp) (sym nn.2) (elim (f (names-from_writes (script_of_entry plan e) op.tuple w)) [
-              | inl o ↦ absurd (differ w (open_reads e o).1)
-              | inr le ↦ le
-            ])) (facts.settled op.tuple))
+        | inr nn ↦ subst (λ (x : Op). AllByRecursion (λ e. writes (script_of_entry plan e) x.tuple ≡ true → IsOpen plan new e x.tuple ⊎ AtMost e.entry.stamp s.stamp) h) (sym ns.2)
+            (each_entry h (λ e f w. subst (λ (x : Seen). IsOpen plan new e op.tuple ⊎ AtMost e.entry.stamp x.stamp) (sym nn.2) (still_open e op.tuple (f (names-from_writes (script_of_entry plan e) op.tuple w)))) (facts.settled op.tuple))
       ]
     ];
-    namers = λ d k o s st n x is. elim (lock_of d k o st) [
+    namers = λ d k o s st x is. elim (lock_of d k o st) [
       | inl hs ↦ elim (noted_of d k s is) [
-        | inl hn ↦ facts.namers d k o s hs (λ i. n (ap (λ (y : ClientState). y.phase) (decided_old d i) ∙ i)) x hn
+        | inl hn ↦ each_entry h (λ e f w. still_open e o.tuple (f w)) (facts.namers d k o s hs x hn)
         | inr nn ↦ absurd (past hs.to nn.0 nn.1)
       ]
       | inr ns ↦ elim (noted_of d k s is) [
         | inl hn ↦ absurd (past (slice_get_within (at d).noted k s hn) ns.0 ns.1)
-        | inr nn ↦ subst (λ (y : Op). AllByRecursion (λ e. names (script_of_entry plan e) y.tuple ≡ true → AtMost e.entry.stamp s.stamp) h) (sym ns.2)
-            (each_entry h (λ e f w. subst (λ (y : Seen). AtMost e.entry.stamp y.stamp) (sym nn.2) (elim (f w) [
-              | inl o ↦ absurd (differ (open_reads e o).0 (ap (λ (y : Op). is_read y.act) (sym ns.2) ∙ x))
-              | inr le ↦ le
-            ])) (facts.settled op.tuple))
+        | inr nn ↦ subst (λ (y : Op). AllByRecursion (λ e. names (script_of_entry plan e) y.tuple ≡ true → IsOpen plan new e y.tuple ⊎ AtMost e.entry.stamp s.stamp) h) (sym ns.2)
+            (each_entry h (λ e f w. subst (λ (y : Seen). IsOpen plan new e op.tuple ⊎ AtMost e.entry.stamp y.stamp) (sym nn.2) (still_open e op.tuple (f w))) (facts.settled op.tuple))
       ]
     ];
-    settled = λ t. each_entry h (λ e f named. elim (f named) [ inl o ↦ inl (open_stays plan at new e t (decided_old e.entry.client o.phase) o) | inr le ↦ inr le ]) (facts.settled t);
+    settled = λ t. each_entry h (λ e f named. still_open e t (f named)) (facts.settled t);
     own = λ d. elim (same_or_not d c) [
       | inl e ↦ subst (λ (x : ℕ). AllByRecursion (λ f. f.entry.client ≡ x → AtMost f.entry.stamp (new x).last) h) (sym e) (subst (λ (y : ClientState). AllByRecursion (λ f. f.entry.client ≡ c → AtMost f.entry.stamp y.last) h) (sym mine) (facts.own c))
       | inr n ↦ subst (λ (x : ClientState). AllByRecursion (λ f. f.entry.client ≡ d → AtMost f.entry.stamp x.last) h) (sym (others d n)) (facts.own d)

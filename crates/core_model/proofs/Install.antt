@@ -12,15 +12,15 @@ use Rattle.txn_model.specs.declared.stamp.Seen.{Seen}
 use Rattle.txn_model.proofs.TupleOrder.{tuple_cmp_total}
 use Rattle.history_model.specs.Chain.{Step, all_steps, last_value}
 use Rattle.history_model.specs.History.{HistoryEntry, History, greater}
-use Rattle.catalogue.specs.Plan.{Plan}
+use Rattle.catalogue.specs.Plan.{Plan, script_at}
 use Rattle.core_model.specs.declared.phase.Phase.TheVariants.{Installing}
 use Rattle.core_model.specs.State.{ClientState, Store, seen_at, first_seen, script_now}
 use Rattle.core_model.specs.Locks.{cold_ops}
 use Rattle.core_model.specs.StampOrder.{AtMost}
-use Rattle.core_model.specs.Facts.{Clients, Stands, IsOpen, NoOpenWriter, FitsPhase, Facts, steps_now, script_of_entry, answered}
+use Rattle.core_model.specs.Facts.{Clients, Stands, IsOpen, NoOpenWriter, FitsPhase, Facts, steps_now, script_of_entry, answered, writes}
 use Rattle.core_model.proofs.Stamps.{AtMost-refl, AtMost-trans, AtMost-greater_left, AtMost-greater_right}
 use Rattle.core_model.proofs.Fewer.{OthersStay, KeepsLocks, same_or_not, each_entry, open_stays, stood, was_noted}
-use Rattle.core_model.proofs.Granted.{differ}
+use Rattle.core_model.proofs.Granted.{differ, turned_test}
 
 -- what the store has at a tuple after a write
 pub seen_at-insert : (store : Store) (k : TupleId) (seen : Seen) (t : TupleId) → seen_at (fin.insert store k seen) t ≡ (if k.0 == t.0 then seen else seen_at store t)
@@ -43,8 +43,9 @@ module _ (plan : Plan) (at new : Clients) (store : Store) (h : History) (c : ℕ
     -- the new state has the locks behind the installed one, and if it is still decided the same script and reply
     (keeps : KeepsLocks plan c (at c) (new c)) (later : (k : ℕ) (o : Op) → Stands plan c (new c) k o → (at c).installed < k)
     (still : (k : ℕ) (o : Op) → Stands plan c (at c) k o → (at c).installed < k → Stands plan c (new c) k o × ((new c).phase ≡ Installing) × ((new c).seq ≡ (at c).seq))
-    (same_steps : (new c).phase ≡ Installing → steps_now plan c (new c) ≡ steps_now plan c (at c)) (locks_decided : (k : ℕ) (o : Op) → Stands plan c (new c) k o → (new c).phase ≡ Installing)
-    (distinct : (k : ℕ) (o : Op) → Stands plan c (at c) k o → (at c).installed < k → (op.tuple.0 == o.tuple.0) ≡ false) where
+    (same_steps : (new c).phase ≡ Installing → steps_now plan c (new c) ≡ steps_now plan c (at c))
+    (distinct : (k : ℕ) (o : Op) → Stands plan c (at c) k o → (at c).installed < k → (op.tuple.0 == o.tuple.0) ≡ false)
+    (changes : writes (script_now plan c (at c)) op.tuple ≡ true → is_read op.act ≡ false) where
   abbrev written : Seen
   written = record { value = p.now; stamp = greater (seen_at store op.tuple).stamp (at c).last }
 
@@ -121,32 +122,34 @@ module _ (plan : Plan) (at new : Clients) (store : Store) (h : History) (c : ℕ
       on_tuple true on = on_read (is_read op.act) refl on ∙ ap (λ (s : Seen). s.value) (sym (this_tuple t on))
       on_tuple false n = facts.unchanged t (no_writer_old t quiet (λ on. absurd (differ on n))) ∙ ap (λ (s : Seen). s.value) (sym (other_tuple t n))
 
+  -- an open entry stays open, unless its lock is the one that is given back
+  open_still : (e : HistoryEntry) (t : TupleId) → IsOpen plan at e t → IsOpen plan new e t ⊎ ((e.entry.client ≡ c) × (e.entry.seq ≡ (at c).seq) × ((op.tuple.0 == t.0) ≡ true))
+  open_still e t o = elim (same_or_not e.entry.client c) [
+    | inl same ↦
+        let seq = subst (λ (x : ℕ). e.entry.seq ≡ (at x).seq) same o.seq in
+        elim (own_lock o.k o.op (subst (λ (x : ℕ). Stands plan x (at x) o.k o.op) same o.stands)) [
+          | inl is ↦ inr (same, seq, ap (λ (x : Op). x.tuple.0 == t.0) (sym is.1) ∙ o.on)
+          | inr lt ↦
+              let kept = still o.k o.op (subst (λ (x : ℕ). Stands plan x (at x) o.k o.op) same o.stands) lt in
+              inl (record {
+                phase = subst (λ (x : ℕ). (new x).phase ≡ Installing) (sym same) kept.1;
+                seq = subst (λ (x : ℕ). e.entry.seq ≡ (new x).seq) (sym same) (seq ∙ sym kept.2);
+                k = o.k;
+                op = o.op;
+                stands = subst (λ (x : ℕ). Stands plan x (new x) o.k o.op) (sym same) kept.0;
+                on = o.on;
+              })
+        ]
+    | inr n ↦ inl (open_stays plan at new e t (others e.entry.client n) o)
+  ]
+
   settled_now : (t : TupleId) → AllByRecursion (λ e. names (script_of_entry plan e) t ≡ true → IsOpen plan new e t ⊎ AtMost e.entry.stamp (seen_at store_new t).stamp) h
   settled_now t = go h (facts.settled t) (facts.own c)
     where
-      given_back : (e : HistoryEntry) (o : IsOpen plan at e t) → e.entry.client ≡ c → (e.entry.client ≡ c → AtMost e.entry.stamp (at c).last) → IsOpen plan new e t ⊎ AtMost e.entry.stamp (seen_at store_new t).stamp
-      given_back e o same low =
-          let mine = subst (λ (x : ℕ). Stands plan x (at x) o.k o.op) same o.stands in
-          elim (own_lock o.k o.op mine) [
-            | inl is ↦
-                let on = ap (λ (x : Op). x.tuple.0 == t.0) (sym is.1) ∙ o.on in
-                inr (subst (λ (s : Seen). AtMost e.entry.stamp s.stamp) (sym (this_tuple t on)) (AtMost-trans e.entry.stamp (at c).last written.stamp (low same) (AtMost-greater_right (seen_at store op.tuple).stamp (at c).last)))
-            | inr lt ↦
-                let kept = still o.k o.op mine lt in
-                inl (record {
-                  phase = subst (λ (x : ℕ). (new x).phase ≡ Installing) (sym same) kept.1;
-                  seq = subst (λ (x : ℕ). e.entry.seq ≡ (new x).seq) (sym same) (subst (λ (x : ℕ). e.entry.seq ≡ (at x).seq) same o.seq ∙ sym kept.2);
-                  k = o.k;
-                  op = o.op;
-                  stands = subst (λ (x : ℕ). Stands plan x (new x) o.k o.op) (sym same) kept.0;
-                  on = o.on;
-                })
-          ]
-
       one : (e : HistoryEntry) → IsOpen plan at e t ⊎ AtMost e.entry.stamp (seen_at store t).stamp → (e.entry.client ≡ c → AtMost e.entry.stamp (at c).last) → IsOpen plan new e t ⊎ AtMost e.entry.stamp (seen_at store_new t).stamp
-      one e (inl o) low = elim (same_or_not e.entry.client c) [
-        | inl same ↦ given_back e o same low
-        | inr n ↦ inl (open_stays plan at new e t (others e.entry.client n) o)
+      one e (inl o) low = elim (open_still e t o) [
+        | inl held ↦ inl held
+        | inr back ↦ inr (subst (λ (s : Seen). AtMost e.entry.stamp s.stamp) (sym (this_tuple t back.2)) (AtMost-trans e.entry.stamp (at c).last written.stamp (low back.0) (AtMost-greater_right (seen_at store op.tuple).stamp (at c).last)))
       ]
       one e (inr le) low = inr (AtMost-trans e.entry.stamp (seen_at store t).stamp (seen_at store_new t).stamp le (stamp_rises t))
 
@@ -155,11 +158,39 @@ module _ (plan : Plan) (at new : Clients) (store : Store) (h : History) (c : ℕ
       go [] f low = tt
       go (e ∷ l) f low = (λ n. one e (f.0 n) low.0, go l f.1 low.1)
 
-  not_mine : (d k : ℕ) (o : Op) → Stands plan d (new d) k o → (new d).phase ≢ Installing → d ≢ c
-  not_mine d k o st n e = n (subst (λ (x : ℕ). (new x).phase ≡ Installing) (sym e) (locks_decided k o (subst (λ (x : ℕ). Stands plan x (new x) k o) e st)))
+  -- a lock that stands on the tuple whose lock is given back is another client's
+  not_own : (d k : ℕ) (o : Op) → Stands plan d (new d) k o → (op.tuple.0 == o.tuple.0) ≡ true → d ≢ c
+  not_own d k o st on e = let mine = subst (λ (x : ℕ). Stands plan x (new x) k o) e st in differ on (distinct k o (keeps.lock k o mine) (later k o mine))
 
-  undecided_old : (d : ℕ) → d ≢ c → (new d).phase ≢ Installing → (at d).phase ≢ Installing
-  undecided_old d other n i = n (decided_other d other i)
+  writers_now : (d k : ℕ) (o : Op) (seen : Seen) → Stands plan d (new d) k o → slice_get (new d).noted k ≡ Some seen
+      → AllByRecursion (λ e. writes (script_of_entry plan e) o.tuple ≡ true → IsOpen plan new e o.tuple ⊎ AtMost e.entry.stamp seen.stamp) h
+  writers_now d k o seen st is = each_entry h (λ e f w. by e w (f w)) (facts.writers d k o seen old (was_noted plan at new c others keeps d k o seen st is))
+    where
+      old : Stands plan d (at d) k o
+      old = stood plan at new c others keeps d k o st
+
+      by : (e : HistoryEntry) → writes (script_of_entry plan e) o.tuple ≡ true → IsOpen plan at e o.tuple ⊎ AtMost e.entry.stamp seen.stamp → IsOpen plan new e o.tuple ⊎ AtMost e.entry.stamp seen.stamp
+      by e w (inl before) = elim (open_still e o.tuple before) [
+        | inl kept ↦ inl kept
+        | inr back ↦
+            let script = subst (λ (q : ℕ). writes (script_at plan c q) o.tuple ≡ true) back.1 (subst (λ (x : ℕ). writes (script_at plan x e.entry.seq) o.tuple ≡ true) back.0 w) in
+            absurd (differ (shared d k o (not_own d k o st back.2) old back.2) (changes (subst (λ (x : TupleId). writes (script_now plan c (at c)) x ≡ true) (sym (same_tuple op.tuple o.tuple back.2)) script)))
+      ]
+      by e w (inr le) = inr le
+
+  namers_now : (d k : ℕ) (o : Op) (seen : Seen) → Stands plan d (new d) k o → is_read o.act ≡ false → slice_get (new d).noted k ≡ Some seen
+      → AllByRecursion (λ e. names (script_of_entry plan e) o.tuple ≡ true → IsOpen plan new e o.tuple ⊎ AtMost e.entry.stamp seen.stamp) h
+  namers_now d k o seen st x is = each_entry h (λ e f w. by e (f w)) (facts.namers d k o seen old x (was_noted plan at new c others keeps d k o seen st is))
+    where
+      old : Stands plan d (at d) k o
+      old = stood plan at new c others keeps d k o st
+
+      by : (e : HistoryEntry) → IsOpen plan at e o.tuple ⊎ AtMost e.entry.stamp seen.stamp → IsOpen plan new e o.tuple ⊎ AtMost e.entry.stamp seen.stamp
+      by e (inl before) = elim (open_still e o.tuple before) [
+        | inl kept ↦ inl kept
+        | inr back ↦ absurd (differ (facts.apart d c k (at c).installed o op (not_own d k o st back.2) old stands (turned_test op.tuple.0 o.tuple.0 back.2)) x)
+      ]
+      by e (inr le) = inr le
 
   old_phase : (d : ℕ) → (new d).phase ≡ Installing → (at d).phase ≡ Installing
   old_phase d i = elim (same_or_not d c) [
@@ -187,8 +218,8 @@ module _ (plan : Plan) (at new : Clients) (store : Store) (h : History) (c : ℕ
           | inl e ↦ let mine = subst (λ (x : ℕ). Stands plan x (new x) k o) e st in absurd (differ on (distinct k o (keeps.lock k o mine) (later k o mine)))
           | inr n ↦ shared d k o n old on
         ]));
-    writers = λ d k o seen st n is. facts.writers d k o seen (stood plan at new c others keeps d k o st) (undecided_old d (not_mine d k o st n) n) (was_noted plan at new c others keeps d k o seen st is);
-    namers = λ d k o seen st n x is. facts.namers d k o seen (stood plan at new c others keeps d k o st) (undecided_old d (not_mine d k o st n) n) x (was_noted plan at new c others keeps d k o seen st is);
+    writers = writers_now;
+    namers = namers_now;
     settled = settled_now;
     own = λ d. elim (same_or_not d c) [
       | inl e ↦ subst (λ (x : ℕ). AllByRecursion (λ f. f.entry.client ≡ x → AtMost f.entry.stamp (new x).last) h) (sym e) (each_entry h (λ f low is. subst (λ s. AtMost f.entry.stamp s) (sym last) (low is)) (facts.own c))

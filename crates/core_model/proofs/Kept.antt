@@ -2,7 +2,7 @@
 use Rattle.std.proofs.Common.{◌≡◌, ◌≢◌, ℕ, zero, suc, ◌+◌, ◌-◌, ◌<◌, ◌≤◌, ◌==◌, ◌||◌, ◌++◌, Bool, true, false, List, [], ◌∷◌, map, length, take, slice_get, Some, None, inl, inr, refl, sym, ap, subst, ◌∙◌, arith, if◌then◌else◌}
 use Rattle.std.specs.Prelude.{IsSome}
 use Rattle.std.proofs.lemmas.Bool.Decides.{nat_tests}
-use Rattle.txn_model.specs.ScriptCheck.{names}
+use Rattle.txn_model.specs.ScriptCheck.{names, is_read}
 use Rattle.txn_model.specs.declared.op.Op.{Op}
 use Rattle.txn_model.specs.declared.op.TupleId.{TupleId}
 use Rattle.txn_model.specs.declared.pairs.Pair.{Pair}
@@ -19,11 +19,11 @@ use Rattle.core_model.specs.Locks.{cold_ops, clashes, holder}
 use Rattle.core_model.specs.Decision.{pairs_from, greatest, next_sub}
 use Rattle.core_model.specs.Step.{moved, next_item, aborting, granted, refused, released, decided, installed_one, installed, step}
 use Rattle.core_model.specs.Run.{state_behind}
-use Rattle.core_model.specs.Facts.{Stands, FitsPhase, Facts, steps_now}
+use Rattle.core_model.specs.Facts.{Stands, FitsPhase, Facts, steps_now, writes}
 use Rattle.core_model.proofs.Runs.{by_moves}
 use Rattle.core_model.proofs.Fewer.{KeepsLocks, kept_by_fewer}
 use Rattle.core_model.proofs.Decided.{IsDistinct}
-use Rattle.core_model.proofs.Granted.{AllCold, kept_by_grant}
+use Rattle.core_model.proofs.Granted.{AllCold, kept_by_grant, writes_by}
 use Rattle.core_model.proofs.StepsOf.{OnHosts, cold_ops-all, cold_steps-all}
 use Rattle.core_model.proofs.Decide.{all-with_entry, item_at_place, kept_by_decision}
 use Rattle.core_model.proofs.Install.{kept_by_installation}
@@ -84,7 +84,6 @@ record IsInstalled (plan : Plan) (c : ℕ) (x y : ClientState) : Type 0 where
   pub later : (k : ℕ) (o : Op) → Stands plan c y k o → x.installed < k
   pub still : (k : ℕ) (o : Op) → Stands plan c x k o → x.installed < k → Stands plan c y k o × (y.phase ≡ Installing) × (y.seq ≡ x.seq)
   pub same_steps : y.phase ≡ Installing → steps_now plan c y ≡ steps_now plan c x
-  pub locks_decided : (k : ℕ) (o : Op) → Stands plan c y k o → y.phase ≡ Installing
 
 goes_on : (plan : Plan) (c : ℕ) (x : ClientState) → (x.installed + 1 == length (steps_now plan c x)) ≡ false → x.phase ≡ Installing → FitsPhase plan c x Installing → IsInstalled plan c x (record x { installed = x.installed + 1 })
 goes_on plan c x more is fit = record {
@@ -94,7 +93,6 @@ goes_on plan c x more is fit = record {
   later = λ k o st. omega (arith, st.from);
   still = λ k o st lt. (record { from = omega (arith, lt); to = st.to; is = st.is }, is, refl);
   same_steps = λ _. refl;
-  locks_decided = λ k o st. is;
 }
   where
     not_all : (i all n : ℕ) → (i + 1 == all) ≡ false → all ≡ n → i < n → i + 1 < n
@@ -110,7 +108,6 @@ ends plan c x all fit =
       later = λ k o st. absurd (nothing k st.to);
       still = λ k o st lt. absurd (past k lt st.to);
       same_steps = λ i. absurd (next.undecided i);
-      locks_decided = λ k o st. absurd (nothing k st.to);
     }
   where
     nothing : (k : ℕ) → k < 0 → ⊥
@@ -157,13 +154,13 @@ module _ (plan : Plan) (hosts : (c seq : ℕ) → OnHosts plan.layout (script_at
           let same : d ≡ 0 + d = omega arith in
           free_from plan c op 0 s.clients free d j other (subst (λ (m : ℕ). m ≢ c) same n) (subst (λ (m : ℕ). Stands plan m (client_at s d) j other) same st)
 
-  refused_kept : (op : Op) (by : ℕ) → x.phase ≢ Installing → x.installed ≡ 0 → Holds plan (refused plan s c x op by)
+  refused_kept : (op : Op) (by : ℕ) → x.phase ≢ Installing → x.installed ≡ 0 → length x.noted ≤ length (cold_ops plan.layout (script_now plan c x)) → Holds plan (refused plan s c x op by)
   unfolding refused
-  refused_kept op by before none = record { facts = fewer_kept (aborting plan c x x.noted) before (aborts plan c x x.noted (whole_front x.noted) none); answered = holds.answered }
+  refused_kept op by before none room = record { facts = fewer_kept (aborting plan c x x.noted) before (aborts plan c x x.noted (whole_front x.noted) none room); answered = holds.answered }
 
-  released_kept : x.phase ≢ Installing → x.installed ≡ 0 → Holds plan (released plan s c x)
+  released_kept : x.phase ≢ Installing → x.installed ≡ 0 → length x.noted ≤ length (cold_ops plan.layout (script_now plan c x)) → Holds plan (released plan s c x)
   unfolding released
-  released_kept before none = record { facts = fewer_kept (aborting plan c x (take (length x.noted - 1) x.noted)) before (aborts plan c x (take (length x.noted - 1) x.noted) (front_taken (length x.noted - 1) x.noted) none); answered = holds.answered }
+  released_kept before none room = record { facts = fewer_kept (aborting plan c x (take (length x.noted - 1) x.noted)) before (aborts plan c x (take (length x.noted - 1) x.noted) (front_taken (length x.noted - 1) x.noted) none room); answered = holds.answered }
 
   decided_kept : x.phase ≢ Installing → x.installed ≡ 0 → 0 < length x.noted → length x.noted ≡ length (script_now plan c x) → Holds plan (decided plan s c x)
   unfolding decided
@@ -186,7 +183,7 @@ module _ (plan : Plan) (hosts : (c seq : ℕ) → OnHosts plan.layout (script_at
   unfolding installed
   installed_kept p is here = record {
     facts = kept_by_installation plan (client_at s) (client_at (installed plan s c x p)) s.store s.history c p.0 p.1 (others_stay s.clients c y) is here stands
-        note.0 note.1 holds.facts new.fit new.last new.keeps new.later new.still new.same_steps new.locks_decided apart;
+        note.0 note.1 holds.facts new.fit new.last new.keeps new.later new.still new.same_steps apart changes;
     answered = holds.answered;
   }
     where
@@ -215,6 +212,12 @@ module _ (plan : Plan) (hosts : (c seq : ℕ) → OnHosts plan.layout (script_at
       apart : (k : ℕ) (o : Op) → Stands plan c x k o → x.installed < k → (p.0.tuple.0 == o.tuple.0) ≡ false
       apart k o st low = distinct_places (script_now plan c x) x.installed k p.0 o (distinct c x.seq) low (ap (λ (l : List Op). slice_get l x.installed) (sym (cold c)) ∙ stands.is) (ap (λ (l : List Op). slice_get l k) (sym (cold c)) ∙ st.is)
 
+      changes : writes (script_now plan c x) p.0.tuple ≡ true → is_read p.0.act ≡ false
+      changes w = writes_by (script_now plan c x) p.0.tuple x.installed p.0 (distinct c x.seq) (ap (λ (l : List Op). slice_get l x.installed) (sym (cold c)) ∙ stands.is) (itself p.0.tuple.0) w
+        where
+          itself : (n : ℕ) → (n == n) ≡ true
+          itself n = grind arith
+
   -- a client that asks has installed nothing, and has no more locks than it needs
   asks_fit : IsAsking x → (x.installed ≡ 0) × (length x.noted ≤ length (cold_ops plan.layout (script_now plan c x)))
   asks_fit (inl is) = let fit : FitsPhase plan c x Ready = subst (λ (p : Phase). FitsPhase plan c x p) is (holds.facts.fits c) in (fit.1, omega (arith, ap length fit.0))
@@ -222,10 +225,10 @@ module _ (plan : Plan) (hosts : (c seq : ℕ) → OnHosts plan.layout (script_at
 
   kept_by_move : (after : State) → Move plan s c after → Holds plan after
   kept_by_move after (Grants op asks next free is) = subst (Holds plan) (sym is) (granted_kept op (not_decided x asks) (asks_fit asks).0 next free)
-  kept_by_move after (Refuses op by asks next held is) = subst (Holds plan) (sym is) (refused_kept op by (not_decided x asks) (asks_fit asks).0)
+  kept_by_move after (Refuses op by asks next held is) = subst (Holds plan) (sym is) (refused_kept op by (not_decided x asks) (asks_fit asks).0 (asks_fit asks).1)
   kept_by_move after (Releases phase is) =
       let fit : FitsPhase plan c x Aborting = subst (λ (p : Phase). FitsPhase plan c x p) phase (holds.facts.fits c) in
-      subst (Holds plan) (sym is) (released_kept (λ i. let e : Aborting ≡ Installing = sym phase ∙ i in cc) fit.0)
+      subst (Holds plan) (sym is) (released_kept (λ i. let e : Aborting ≡ Installing = sym phase ∙ i in cc) fit.0 fit.2)
   kept_by_move after (Decides asks next some is) =
       subst (Holds plan) (sym is) (decided_kept (not_decided x asks) (asks_fit asks).0 some (omega (arith, (asks_fit asks).1, past_none (cold_ops plan.layout (script_now plan c x)) (length x.noted) next, ap length (cold c))))
   kept_by_move after (Installs p phase at is) = subst (Holds plan) (sym is) (installed_kept p phase at)

@@ -18,17 +18,19 @@ use Rattle.catalogue.specs.Plan.{Plan, script_of, kind_of, script_at}
 use Rattle.catalogue.specs.Sound.{IsSound}
 use Rattle.catalogue.specs.declared.kind.Kind.TheVariants.{Hot, Warm, Cold}
 use Rattle.core_model.specs.declared.phase.Phase.TheVariants.{Installing, Finished}
-use Rattle.core_model.specs.Ends.{HasEnds}
+use Rattle.core_model.specs.Built.{has_cold_items}
 use Rattle.core_model.specs.Facts.{script_of_entry, answered}
-use Rattle.core_model.specs.Laws.{IsCold, IsReached, HasLegalHistory, IsFinished, HasSerialValues, HasItemsInOrder, HasNoLoss, EachCanMove, IsBounded}
+use Rattle.core_model.specs.Laws.{IsReached, HasLegalHistory, IsFinished, HasSerialValues, HasItemsInOrder, EachCanMove, IsBounded}
 use Rattle.core_model.specs.Run.{state_of, opening}
 use Rattle.core_model.specs.State.{ClientState, State, at_item, zero_stamp, client_at}
 use Rattle.core_model.proofs.Bounded.{within_by_moves, within_at_opening}
-use Rattle.core_model.proofs.Decided.{IsDistinct, distinct_from, or_false}
-use Rattle.core_model.proofs.Ended.{ends_by_moves, ends_at_opening}
+use Rattle.core_model.proofs.Cold.{cold_from_items, no_loss_from_items}
+use Rattle.core_model.proofs.Decided.{IsDistinct, distinct_of, or_false}
+use Rattle.core_model.proofs.Ended.{EndsAll, ends_by_moves, ends_at_opening}
 use Rattle.core_model.proofs.InOrder.{in_order_by_moves}
 use Rattle.core_model.proofs.Kept.{Holds, kept_by_moves}
 use Rattle.core_model.proofs.Opening.{holds_at_opening}
+use Rattle.core_model.proofs.Stamped.{AllStamps, stamps_by_moves, stamps_at_opening}
 use Rattle.core_model.proofs.StepsOf.{OnHosts, cold_ops-all}
 use Rattle.core_model.proofs.Stuck.{each_can_move, present_by_moves, present_at_opening}
 
@@ -46,9 +48,9 @@ cold_on_hosts rows ops is = on_hosts rows ops (none (list_all (λ op. is_hot row
     none false false e = refl
 
 -- a script without a fault has distinct tuples
-no_repeat : (ops : List Op) → script_fault ops ≡ None → first_repeat [] ops ≡ None
+no_repeat : (ops : List Op) → script_fault ops ≡ None → first_repeat ops ≡ None
 unfolding script_fault
-no_repeat ops e = parts (length ops == 0) (nat_lt 16 (length ops)) (length ops) (first_repeat [] ops) (first_of (first_bad_use 0 ops) BadUse None) e
+no_repeat ops e = parts (length ops == 0) (nat_lt 16 (length ops)) (length ops) (first_repeat ops) (first_of (first_bad_use ops) BadUse None) e
   where
     parts : (a b : Bool) (n : ℕ) (r : Option ℕ) (o : Option ScriptFault) → (if a then Some Empty else (if b then Some (TooLong n) else first_of r TupleTwice o)) ≡ None → r ≡ None
     parts true b n r o e = cc
@@ -56,19 +58,19 @@ no_repeat ops e = parts (length ops == 0) (nat_lt 16 (length ops)) (length ops) 
     parts false false n None o e = refl
     parts false false n (Some k) o e = cc
 
-pub all_on_hosts : (plan : Plan) → IsCold plan → (c seq : ℕ) → OnHosts plan.layout (script_at plan c seq)
+pub all_on_hosts : (plan : Plan) → has_cold_items plan ≡ true → (c seq : ℕ) → OnHosts plan.layout (script_at plan c seq)
 all_on_hosts plan cold c seq = by (script_of plan c seq) refl
   where
     by : (o : Option (List Op)) → script_of plan c seq ≡ o → OnHosts plan.layout (unwrap_or o [])
     by None is = tt
-    by (Some ops) is = cold_on_hosts plan.layout ops (cold c seq ops is)
+    by (Some ops) is = cold_on_hosts plan.layout ops (cold_from_items plan cold c seq ops is)
 
 pub all_distinct : (plan : Plan) → IsSound plan → (c seq : ℕ) → IsDistinct (script_at plan c seq)
 all_distinct plan sound c seq = by (script_of plan c seq) refl
   where
     by : (o : Option (List Op)) → script_of plan c seq ≡ o → IsDistinct (unwrap_or o [])
     by None is = tt
-    by (Some ops) is = (distinct_from [] ops (no_repeat ops (sound_script plan c seq ops sound is).script)).0
+    by (Some ops) is = distinct_of ops (no_repeat ops (sound_script plan c seq ops sound is).script)
 
 pub holds : (plan : Plan) (s : State) → IsReached plan s → Holds plan s
 unfolding state_of
@@ -117,10 +119,14 @@ pub items_in_order : (plan : Plan) (s : State) → IsReached plan s → HasItems
 unfolding state_of opening
 items_in_order plan s reached = in_order_by_moves plan (all_on_hosts plan reached.cold) (all_distinct plan reached.sound) reached.trace (opening plan) s (holds_at_opening plan) (record { ascending = λ c. tt; past = λ c. tt }) reached.run
 
-pub none_stuck : (plan : Plan) (s : State) → IsReached plan s → HasNoLoss plan → EachCanMove plan s
+pub stamps_of_run : (plan : Plan) (s : State) → IsReached plan s → AllStamps s
+unfolding state_of opening
+stamps_of_run plan s reached = stamps_by_moves plan (all_on_hosts plan reached.cold) (all_distinct plan reached.sound) reached.trace (opening plan) s (holds_at_opening plan) (record { ascending = λ c. tt; past = λ c. tt }) (stamps_at_opening plan) reached.run
+
+pub none_stuck : (plan : Plan) (s : State) → IsReached plan s → EachCanMove plan s
 unfolding state_of
-none_stuck plan s reached none =
-    each_can_move plan s reached.sound none (holds plan s reached) (λ c. cold_ops-all plan.layout (script_at plan c (client_at s c).seq) (all_on_hosts plan reached.cold c (client_at s c).seq))
+none_stuck plan s reached =
+    each_can_move plan s reached.sound (no_loss_from_items plan reached.cold) (holds plan s reached) (λ c. cold_ops-all plan.layout (script_at plan c (client_at s c).seq) (all_on_hosts plan reached.cold c (client_at s c).seq))
     (present_by_moves plan reached.trace (opening plan) s (present_at_opening plan reached.sound.limits.tries.0) reached.run)
 
 pub moves_bounded : (plan : Plan) (s : State) → IsReached plan s → IsBounded plan s
@@ -129,7 +135,6 @@ moves_bounded plan s reached =
     let tries = reached.sound.limits.tries.0 in
     within_by_moves plan (all_on_hosts plan reached.cold) (all_distinct plan reached.sound) reached.trace (opening plan) s (holds_at_opening plan) (present_at_opening plan tries) (within_at_opening plan tries) reached.run
 
-pub items_end : (plan : Plan) (s : State) → IsReached plan s → HasEnds plan s
+pub ends_of : (plan : Plan) (s : State) → IsReached plan s → EndsAll plan s
 unfolding state_of opening
-items_end plan s reached c =
-    (ends_by_moves plan (all_on_hosts plan reached.cold) (all_distinct plan reached.sound) reached.trace (opening plan) s (holds_at_opening plan) (record { ascending = λ d. tt; past = λ d. tt }) (ends_at_opening plan) reached.run c).past
+ends_of plan s reached = ends_by_moves plan (all_on_hosts plan reached.cold) (all_distinct plan reached.sound) reached.trace (opening plan) s (holds_at_opening plan) (record { ascending = λ d. tt; past = λ d. tt }) (ends_at_opening plan) reached.run

@@ -26,3 +26,10 @@ pub mod Potentials
 pub mod SmallStamps
 pub mod SmallBounds
 pub mod Numbers
+pub mod Stamped
+pub mod ColdChains
+pub mod Fixed
+pub mod TwoPhases
+pub mod Rising
+pub mod Holders
+pub mod ItemEnds

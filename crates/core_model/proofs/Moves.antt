@@ -132,14 +132,14 @@ try_is_over plan c x = over (x.refused + 1 == plan.tries)
     over false = record { keeps = none_kept plan c x again refl; undecided = λ i. cc; fit = (refl, refl); last = refl }
 
 -- where it aborts with the first of its locks
-pub aborts : (plan : Plan) (c : ℕ) (x : ClientState) (front : List Seen) → IsFrontOf front x.noted → x.installed ≡ 0 → Fewer plan c x (aborting plan c x front)
-aborts plan c x [] is none = try_is_over plan c x
-aborts plan c x (seen ∷ others) is none = record {
+pub aborts : (plan : Plan) (c : ℕ) (x : ClientState) (front : List Seen) → IsFrontOf front x.noted → x.installed ≡ 0 → length x.noted ≤ length (cold_ops plan.layout (script_now plan c x)) → Fewer plan c x (aborting plan c x front)
+aborts plan c x [] is none room = try_is_over plan c x
+aborts plan c x (seen ∷ others) is none room = record {
   keeps = record {
     lock = λ k op st. record { from = st.from; to = omega (arith, st.to, is.fewer); is = st.is };
     noted = λ k s op st at. is.at k s at;
   };
   undecided = λ i. cc;
-  fit = (none, omega arith);
+  fit = (none, omega arith, omega (arith, is.fewer, room));
   last = refl;
 }

@@ -44,8 +44,8 @@ holds_at_opening plan = record {
         subst (λ (x : ClientState). FitsPhase plan d x x.phase) (sym at.1) (at_beginning plan d at.0 1 (at_item 0 1 zero_stamp)).fit;
     apart = λ a b k j op other n sa sb e. absurd (bare a k op sa);
     value = λ d k op seen st is. absurd (bare d k op st);
-    writers = λ d k op seen st n is. tt;
-    namers = λ d k op seen st n x is. tt;
+    writers = λ d k op seen st is. tt;
+    namers = λ d k op seen st x is. tt;
     settled = λ t. tt;
     own = λ d. tt;
     sorted = tt;

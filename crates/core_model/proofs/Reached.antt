@@ -1,12 +1,13 @@
 -- What holds of each state that a session reaches, for code that keeps one.
-use Rattle.std.proofs.Common.{◌≡◌, ℕ, suc, ◌+◌, ◌<◌, ◌≤◌, List, [], ◌∷◌, ◌++◌, length, length-set, Option, Some, None, refl, ap, ◌∙◌, arith}
+use Rattle.std.proofs.Common.{◌≡◌, ℕ, suc, ◌+◌, ◌<◌, ◌≤◌, true, List, [], ◌∷◌, ◌++◌, length, length-set, Option, Some, None, refl, ap, ◌∙◌, arith}
 use Rattle.std.specs.Option.{option_and_then}
 use Rattle.std.proofs.lemmas.List.{length-map}
 use Rattle.catalogue.specs.Plan.{Plan, script_at}
 use Rattle.catalogue.specs.Sound.{IsSound}
 use Rattle.catalogue.specs.declared.actor.Actor.{Actor}
 use Rattle.core_model.specs.Bound.{moves_left, move_bound}
-use Rattle.core_model.specs.Laws.{IsCold, IsReached}
+use Rattle.core_model.specs.Built.{has_cold_items}
+use Rattle.core_model.specs.Laws.{IsReached}
 use Rattle.core_model.specs.Run.{opening, state_behind, state_of}
 use Rattle.core_model.specs.State.{State, client_at, script_now}
 use Rattle.core_model.specs.Locks.{cold_ops}
@@ -27,7 +28,7 @@ pub present_of : (plan : Plan) (s : State) → IsReached plan s → ArePresent p
 unfolding state_of
 present_of plan s reached = present_by_moves plan reached.trace (opening plan) s (present_at_opening plan reached.sound.limits.tries.0) reached.run
 
-pub opening_is_reached : (plan : Plan) → IsSound plan → IsCold plan → IsReached plan (opening plan)
+pub opening_is_reached : (plan : Plan) → IsSound plan → has_cold_items plan ≡ true → IsReached plan (opening plan)
 unfolding state_of
 opening_is_reached plan sound cold = record { sound = sound; cold = cold; trace = []; run = refl }
 

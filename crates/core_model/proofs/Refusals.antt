@@ -11,6 +11,7 @@ use Rattle.core_model.specs.Locks.{holder}
 use Rattle.core_model.specs.Run.{opening, state_behind, state_of}
 use Rattle.core_model.specs.State.{State, client_at}
 use Rattle.core_model.specs.Step.{granted, refused, released, decided, installed, step}
+use Rattle.core_model.proofs.Holders.{least_of_holder}
 use Rattle.core_model.proofs.MoveKinds.{Move, Grants, Refuses, Releases, Decides, Installs, Moved, move_of}
 use Rattle.core_model.proofs.StepsOf.{all_append}
 
@@ -56,11 +57,11 @@ state_behind-append plan s next after (actor ∷ done) rest e f = by (step plan 
     by (Some z) is g go = go z g
     by None is g go = cc
 
-taken_front : (done rest : List Actor) → take (length done) (done ++ rest) ≡ done
+pub taken_front : (done rest : List Actor) → take (length done) (done ++ rest) ≡ done
 taken_front [] rest = refl
 taken_front (a ∷ done) rest = ap (λ (l : List Actor). a ∷ l) (taken_front done rest)
 
-at_front : (done rest : List Actor) (actor : Actor) → slice_get (done ++ actor ∷ rest) (length done) ≡ Some actor
+pub at_front : (done rest : List Actor) (actor : Actor) → slice_get (done ++ actor ∷ rest) (length done) ≡ Some actor
 at_front [] rest actor = refl
 at_front (a ∷ done) rest actor = at_front done rest actor
 
@@ -94,7 +95,7 @@ true_refusals plan (actor ∷ rest) done s after run count all e =
       op = r.op;
       next = r.next;
       tuple = refl;
-      holder = r.held;
+      holder = least_of_holder plan s moved.client r.op r.by r.held;
     }
 
     all_true : (next : State) → Moved plan s actor next → AllByRecursion (IsTrue plan (done ++ actor ∷ rest)) next.refusals

@@ -23,7 +23,7 @@ short_script ops e = parts (length ops == 0) (nat_lt 16 (length ops)) refl e
     not_below : (n : ℕ) → nat_lt 16 n ≡ false → n ≤ 16
     not_below n is = grind (arith, nat_tests)
 
-    parts : (a b : Bool) → nat_lt 16 (length ops) ≡ b → (if a then Some Empty else (if b then Some (TooLong (length ops)) else first_of (first_repeat [] ops) TupleTwice (first_of (first_bad_use 0 ops) BadUse None))) ≡ None → length ops ≤ 16
+    parts : (a b : Bool) → nat_lt 16 (length ops) ≡ b → (if a then Some Empty else (if b then Some (TooLong (length ops)) else first_of (first_repeat ops) TupleTwice (first_of (first_bad_use ops) BadUse None))) ≡ None → length ops ≤ 16
     parts true b is f = cc
     parts false true is f = cc
     parts false false is f = not_below (length ops) is

@@ -14,7 +14,8 @@ use Rattle.core_model.specs.declared.phase.Phase.{Phase}
 use Rattle.core_model.specs.declared.phase.Phase.TheVariants.{Ready, Locking, Aborting, Logged, Waiting, Installing, Finished}
 use Rattle.core_model.specs.Asking.{IsAsking, next_op}
 use Rattle.core_model.specs.Facts.{FitsPhase, steps_now}
-use Rattle.core_model.specs.Laws.{HasNoLoss, EachCanMove}
+use Rattle.core_model.specs.Laws.{EachCanMove}
+use Rattle.core_model.proofs.Cold.{HasNoLoss}
 use Rattle.core_model.specs.Locks.{cold_ops}
 use Rattle.core_model.specs.Run.{opening, first_clients, state_behind}
 use Rattle.core_model.specs.State.{ClientState, State, at_item, client_at, script_now, zero_stamp}

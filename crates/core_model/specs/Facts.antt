@@ -59,7 +59,7 @@ NoOpenWriter plan at t = (c k : ℕ) (op : Op) → Stands plan c (at c) k op →
 abbrev pub FitsPhase : Plan → ℕ → ClientState → Phase → Type 0
 FitsPhase plan c x Ready = (x.noted ≡ []) × (x.installed ≡ 0)
 FitsPhase plan c x Locking = (length x.noted ≤ length (cold_ops plan.layout (script_now plan c x))) × (x.installed ≡ 0)
-FitsPhase plan c x Aborting = (x.installed ≡ 0) × (0 < length x.noted)
+FitsPhase plan c x Aborting = (x.installed ≡ 0) × (0 < length x.noted) × (length x.noted ≤ length (cold_ops plan.layout (script_now plan c x)))
 FitsPhase plan c x Logged = ⊥
 FitsPhase plan c x Waiting = ⊥
 FitsPhase plan c x Installing = (length x.noted ≡ length (cold_ops plan.layout (script_now plan c x))) × (length (steps_now plan c x) ≡ length x.noted) × (x.installed < length x.noted)
@@ -71,12 +71,12 @@ pub record Facts (plan : Plan) (at : Clients) (store : Store) (h : History) : Ty
   pub apart : (c d k j : ℕ) (op other : Op) → c ≢ d → Stands plan c (at c) k op → Stands plan d (at d) j other → (op.tuple.0 == other.tuple.0) ≡ true → is_read op.act ≡ true
   -- what was read under a lock that stands is what the store has
   pub value : (c k : ℕ) (op : Op) (seen : Seen) → Stands plan c (at c) k op → slice_get (at c).noted k ≡ Some seen → seen.value ≡ (seen_at store op.tuple).value
-  -- before the decision, the stamp that was read is at least that of each entry that changes the tuple, and under an
+  -- the stamp that was read is at least that of each entry that changes the tuple and no longer holds its lock, and under an
   -- exclusive lock of each that names it
-  pub writers : (c k : ℕ) (op : Op) (seen : Seen) → Stands plan c (at c) k op → (at c).phase ≢ Installing → slice_get (at c).noted k ≡ Some seen
-      → AllByRecursion (λ e. writes (script_of_entry plan e) op.tuple ≡ true → AtMost e.entry.stamp seen.stamp) h
-  pub namers : (c k : ℕ) (op : Op) (seen : Seen) → Stands plan c (at c) k op → (at c).phase ≢ Installing → is_read op.act ≡ false → slice_get (at c).noted k ≡ Some seen
-      → AllByRecursion (λ e. names (script_of_entry plan e) op.tuple ≡ true → AtMost e.entry.stamp seen.stamp) h
+  pub writers : (c k : ℕ) (op : Op) (seen : Seen) → Stands plan c (at c) k op → slice_get (at c).noted k ≡ Some seen
+      → AllByRecursion (λ e. writes (script_of_entry plan e) op.tuple ≡ true → IsOpen plan at e op.tuple ⊎ AtMost e.entry.stamp seen.stamp) h
+  pub namers : (c k : ℕ) (op : Op) (seen : Seen) → Stands plan c (at c) k op → is_read op.act ≡ false → slice_get (at c).noted k ≡ Some seen
+      → AllByRecursion (λ e. names (script_of_entry plan e) op.tuple ≡ true → IsOpen plan at e op.tuple ⊎ AtMost e.entry.stamp seen.stamp) h
   -- a tuple's stamp is at least that of each entry that names it and no longer holds its lock
   pub settled : (t : TupleId) → AllByRecursion (λ e. names (script_of_entry plan e) t ≡ true → IsOpen plan at e t ⊎ AtMost e.entry.stamp (seen_at store t).stamp) h
   -- a client's last stamp is at least that of each of its entries

@@ -1,32 +1,28 @@
 -- Laws over all runs of sessions of transactions on hosts.
-use Rattle.std.specs.Prelude.{◌+◌, ◌<◌, ◌≤◌, ◌≢◌, ◌⊎◌, [], ◌∷◌, ⊤, length, IsSome, ◌≡◌, ℕ, List, Some}
+use Rattle.std.specs.Prelude.{◌+◌, ◌<◌, ◌≤◌, ◌≢◌, ◌⊎◌, [], ◌∷◌, ⊤, true, length, IsSome, ◌≡◌, ℕ, List, Some}
 use Rattle.std.specs.List.{AllByRecursion}
 use Rattle.txn_model.specs.Serial.{serial_run}
 use Rattle.txn_model.specs.Tuples.{value_at}
-use Rattle.txn_model.specs.declared.op.Op.{Op}
 use Rattle.txn_model.specs.declared.op.TupleId.{TupleId}
 use Rattle.history_model.specs.History.{IsInStampOrder, AllAnswered}
 use Rattle.history_model.specs.InOrder.{seqs_of}
 use Rattle.history_model.specs.Legal.{IsLegal, scripts_of}
-use Rattle.catalogue.specs.Plan.{Plan, PlainItem, item_of, script_in, script_of, kind_of, script_at}
+use Rattle.catalogue.specs.Plan.{Plan, script_at}
 use Rattle.catalogue.specs.Sound.{IsSound}
 use Rattle.catalogue.specs.declared.actor.Actor.{Actor}
 use Rattle.catalogue.specs.declared.actor.Actor.TheVariants.{Client}
-use Rattle.catalogue.specs.declared.kind.Kind.TheVariants.{Cold}
 use Rattle.core_model.specs.declared.phase.Phase.TheVariants.{Installing, Finished}
 use Rattle.core_model.specs.Bound.{moves_left, move_bound}
+use Rattle.core_model.specs.Built.{has_cold_items}
 use Rattle.core_model.specs.Run.{state_of}
+use Rattle.core_model.specs.StampOrder.{Below}
 use Rattle.core_model.specs.Step.{step}
 use Rattle.core_model.specs.State.{ClientState, State, client_at, seen_at}
 
--- each transaction of the session is on tuples of hosts alone
-abbrev pub IsCold : Plan → Type 0
-IsCold plan = (client seq : ℕ) (ops : List Op) → script_of plan client seq ≡ Some ops → kind_of plan.layout ops ≡ Cold
-
--- the state is one that some moves make of the opening of a sound session of such transactions
+-- the state is one that some moves make of the opening of a sound session whose items are all transactions on hosts
 pub record IsReached (plan : Plan) (s : State) : Type 0 where
   pub sound : IsSound plan
-  pub cold : IsCold plan
+  pub cold : has_cold_items plan ≡ true
   pub trace : List Actor
   pub run : state_of plan trace ≡ Some s
 
@@ -58,9 +54,9 @@ pub record HasItemsInOrder (s : State) : Type 0 where
   pub ascending : (c : ℕ) → IsAscending (seqs_of c s.history)
   pub past : (c : ℕ) → AllByRecursion (IsPast (client_at s c)) (seqs_of c s.history)
 
--- no item loses the switch
-abbrev pub HasNoLoss : Plan → Type 0
-HasNoLoss plan = (client seq : ℕ) (item : PlainItem) → item_of plan client seq ≡ Some item → IsSome (script_in item)
+-- of two entries of one client the one with the lower seq has the lower stamp
+abbrev pub HasRisingStamps : State → Type 0
+HasRisingStamps s = AllByRecursion (λ e. AllByRecursion (λ f. e.entry.client ≡ f.entry.client → e.entry.seq < f.entry.seq → Below e.entry.stamp f.entry.stamp) s.history) s.history
 
 -- each client that hasn't finished can move
 abbrev pub EachCanMove : Plan → State → Type 0

@@ -13,3 +13,6 @@ pub mod Rota
 pub mod Built
 pub mod Driven
 pub mod Room
+pub mod Fixed
+pub mod ColdChains
+pub mod TwoPhases

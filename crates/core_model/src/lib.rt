@@ -6,15 +6,18 @@
 //! Today its moves are those of transactions on hosts alone, and the laws speak of sessions of such.
 #![tactic(auto)]
 
+mod item_end;
 mod laws;
 mod limits;
 mod phase;
 mod refusal;
 mod rounds;
 
+pub use item_end::ItemEnd;
 pub use laws::{
-    decisions_stand_above, histories_are_legal, items_are_in_order, items_end, moves_are_bounded,
-    no_client_is_stuck, refusals_are_true, values_are_serial,
+    chains_are_cold, histories_are_legal, items_are_in_order, items_end, locks_are_two_phase,
+    moves_are_bounded, no_client_is_stuck, refusals_are_true, stamps_stand_above,
+    values_are_serial,
 };
 pub use limits::{bounds_are_small, room_is_enough};
 pub use phase::Phase;

@@ -33,7 +33,7 @@ use Rattle.fabric_core.specs.Held.{HasLocks, mode_of}
 use Rattle.fabric_core.specs.Standing.{IsActionIn, IsTurnIn, StandsFor, shown_from}
 use Rattle.fabric_core.specs.declared.core_state.CoreState.{CoreState}
 use Rattle.fabric_core.proofs.Clients as clients
-use Rattle.fabric_core.proofs.Held.{holder_same, locks_asked, table_free_when_next}
+use Rattle.fabric_core.proofs.Held.{free_same, holder_same, locks_asked, table_free_when_next}
 use Rattle.fabric_core.proofs.Present as present
 
 -- what the table answered, by the operation's mode
@@ -102,13 +102,13 @@ module _ (plan : Plan) (core : CoreState) (c at k : ℕ) (ops : List Op) (s : St
     free = table_free_when_next plan s core.locks c op turn.stands.locks next none_installed (present.distinct_now plan core c at s turn c)
 
     held_by : (now : Locks) (by : ℕ) → IsTried core.locks now op.tuple (mode_of op) c (HeldBy by) → holder plan s c op ≡ Some by
-    held_by now by tried = sym (holder_same plan s core.locks c op turn.stands.locks (present.few_clients plan core c at s turn) (present.distinct_now plan core c at s turn)) ∙ tried.0
+    held_by now by tried = holder_same plan s core.locks c op by turn.stands.locks (present.distinct_now plan core c at s turn) tried.0
 
     held_by_none : (now : Locks) → IsTried core.locks now op.tuple (mode_of op) c Granted → holder plan s c op ≡ None
-    held_by_none now tried = sym (holder_same plan s core.locks c op turn.stands.locks (present.few_clients plan core c at s turn) (present.distinct_now plan core c at s turn)) ∙ tried.0
+    held_by_none now tried = free_same plan s core.locks c op turn.stands.locks (present.distinct_now plan core c at s turn) tried.0
 
     has_locks : (now : Locks) (grant : Grant) → IsTried core.locks now op.tuple (mode_of op) c grant → HasLocks plan (asked plan s c x op) now
-    has_locks now grant tried = locks_asked plan s core.locks now c op grant turn.stands.locks tried (present.within_clients plan core c at s turn) (present.few_clients plan core c at s turn) next none_installed (present.distinct_now plan core c at s turn)
+    has_locks now grant tried = locks_asked plan s core.locks now c op grant turn.stands.locks tried (present.within_clients plan core c at s turn) next none_installed (present.distinct_now plan core c at s turn)
 
     pub granted_stands : (new : code.ClientState) (now : Locks) (seen : Seen) → IsTried core.locks now op.tuple (mode_of op) c Granted → fin.get core.store op.tuple ≡ Some seen
         → plain_client new ≡ shown ops (with_lock seen x) → 16 ≤ room_of new
@@ -149,7 +149,7 @@ module _ (plan : Plan) (core : CoreState) (c at k : ℕ) (ops : List Op) (s : St
       tuples = λ t. ap (λ (l : Locks). has_tuple l t) tried.1 ∙ turn.stands.tuples t;
       store = turn.stands.store ∙ sym (ap (λ (z : State). z.store) as_refused);
       history = turn.stands.history ∙ sym (ap (λ (z : State). z.history) as_refused);
-      entries = turn.stands.entries;
+      runs = turn.stands.runs;
       refusals = kept ∙ sym (ap (λ (z : State). z.refusals) as_refused);
       refused = omega (arith, turn.stands.refused, spare, ap length told, length-append core.refusals.items (record { client = c; seq = seq; tuple = op.tuple; holder = by; at = at } ∷ []));
     }

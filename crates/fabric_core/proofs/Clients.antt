@@ -72,7 +72,7 @@ module _ {plan : Plan} {core : CoreState} {c at : ℕ} {s : State} (turn : IsTur
       tuples = λ t. tuples t ∙ turn.stands.tuples t;
       store = stored;
       history = turn.stands.history ∙ sym history;
-      entries = turn.stands.entries;
+      runs = turn.stands.runs;
       refusals = turn.stands.refusals ∙ sym refusals;
       refused = turn.stands.refused;
     }

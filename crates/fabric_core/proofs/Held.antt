@@ -12,8 +12,7 @@ use Rattle.history_model.specs.Chain.{Step}
 use Rattle.stage_layout.specs.declared.layout.LayoutRow.{LayoutRow}
 use Rattle.stage_layout.specs.Late.{is_hot}
 use Rattle.catalogue.specs.Plan.{Plan, PlainItem}
-use Rattle.host_locks.specs.Conflict as table
-use Rattle.host_locks.specs.Conflict.{conflicts, stops}
+use Rattle.host_locks.specs.Conflict.{conflicts, stops, IsFree, IsLeastInTheWay}
 use Rattle.host_locks.specs.Locks as tables
 use Rattle.host_locks.specs.Locks.{Locks, mode_held, IsWithLock, IsTried}
 use Rattle.host_locks.specs.declared.mode.Grant.{Grant}
@@ -25,10 +24,11 @@ use Rattle.core_model.specs.State.{ClientState, State, at_item, client_at, seen_
 use Rattle.core_model.specs.Asking.{next_op}
 use Rattle.core_model.specs.Decision.{cold_steps}
 use Rattle.core_model.specs.Facts.{FitsPhase, steps_now}
-use Rattle.core_model.specs.Locks.{cold_ops, clashes, held, holder_from, holder}
+use Rattle.core_model.specs.Locks.{cold_ops, clashes, held, holder, in_the_way}
 use Rattle.core_model.specs.Run.{first_clients, opening}
 use Rattle.core_model.specs.Step.{aborting, try_ended, next_item, granted, refused, by_holder, asked, released, decided, installed_one, installed}
 use Rattle.core_model.proofs.Fewer.{same_or_not}
+use Rattle.core_model.proofs.Holders.{holder_of_least, holder_of_free}
 use Rattle.core_model.proofs.Moves.{moved_client, others_stay}
 use Rattle.core_model.proofs.Decided.{IsDistinct, or_false, same_names}
 use Rattle.core_model.proofs.Granted.{differ, joined_tests, named_by, turned_test}
@@ -181,43 +181,20 @@ stops-lock_of op (o ∷ ops) distinct = by (o.tuple.0 == op.tuple.0) refl (stops
         ∙ clash true e
     by false e rest = rest ∙ clash false e
 
-skip : (a : Bool) (k : ℕ) (r : Option ℕ) → (if a && false then Some k else r) ≡ r
-skip true k r = refl
-skip false k r = refl
-
--- where no client holds a lock that stops this one, none is found
-nobody : (by_client : ℕ → Option Mode) (mode : Mode) (me k count : ℕ) → ((j : ℕ) → stops mode (by_client (k + j)) ≡ false) → table.holder_from by_client mode me k count ≡ None
-nobody by_client mode me k zero free = refl
-nobody by_client mode me k (suc count) free =
-    let same : k + 0 ≡ k = omega arith in
-    ap (λ (b : Bool). if not (k == me) && b then Some k else table.holder_from by_client mode me (k + 1) count) (subst (λ (m : ℕ). stops mode (by_client m) ≡ false) same (free 0))
-    ∙ skip (not (k == me)) k (table.holder_from by_client mode me (k + 1) count)
-    ∙ nobody by_client mode me (k + 1) count (λ j. let next : k + suc j ≡ (k + 1) + j = omega arith in subst (λ (m : ℕ). stops mode (by_client m) ≡ false) next (free (suc j)))
-
--- the search in a table is that among the clients
-same_search : (plan : Plan) (me : ℕ) (op : Op) (by_client : ℕ → Option Mode) (k count : ℕ) (clients : List ClientState) → length clients ≤ count
-    → ((j : ℕ) → stops (mode_of op) (by_client (k + j)) ≡ list_any (clashes op) (held plan (k + j) (get_or clients j (at_item 0 1 zero_stamp))))
-    → table.holder_from by_client (mode_of op) me k count ≡ holder_from plan me op k clients
-same_search plan me op by_client k count [] room stop = nobody by_client (mode_of op) me k count stop
-same_search plan me op by_client k zero (x ∷ clients) room stop = absurd (omega arith)
-same_search plan me op by_client k (suc count) (x ∷ clients) room stop =
-    let same : k + 0 ≡ k = omega arith in
-    ap (λ (b : Bool). if not (k == me) && b then Some k else table.holder_from by_client (mode_of op) me (k + 1) count)
-    (subst (λ (m : ℕ). stops (mode_of op) (by_client m) ≡ list_any (clashes op) (held plan m x)) same (stop 0))
-    ∙ ap (λ (r : Option ℕ). if not (k == me) && list_any (clashes op) (held plan k x) then Some k else r)
-    (same_search plan me op by_client (k + 1) count clients (omega arith)
-    (λ j. let next : k + suc j ≡ (k + 1) + j = omega arith in
-    subst (λ (m : ℕ). stops (mode_of op) (by_client m) ≡ list_any (clashes op) (held plan m (get_or clients j (at_item 0 1 zero_stamp)))) next (stop (suc j))))
+-- a client stands in the way in the table where it does in the model
+same_way : (plan : Plan) (s : State) (locks : Locks) (op : Op) → HasLocks plan s locks → ((d : ℕ) → IsDistinct (script_now plan d (client_at s d))) → (d : ℕ) → tables.in_the_way locks op.tuple (mode_of op) d ≡ in_the_way plan s op d
+same_way plan s locks op has distinct d = ap (stops (mode_of op)) (has op.tuple d) ∙ stops-lock_of op (held plan d (client_at s d)) (held_distinct plan d (client_at s d) (distinct d))
 
 -- the client that the table finds in the way is the one that the model finds
-pub holder_same : (plan : Plan) (s : State) (locks : Locks) (c : ℕ) (op : Op) → HasLocks plan s locks → length s.clients ≤ 8 → ((d : ℕ) → IsDistinct (script_now plan d (client_at s d)))
-    → tables.holder locks op.tuple (mode_of op) c ≡ holder plan s c op
-unfolding tables.holder
-holder_same plan s locks c op has room distinct =
-    same_search plan c op (mode_held locks op.tuple) 0 8 s.clients room
-    (λ j. let same : j ≡ 0 + j = omega arith in
-    subst (λ (m : ℕ). stops (mode_of op) (mode_held locks op.tuple m) ≡ list_any (clashes op) (held plan m (client_at s j))) same
-    (ap (stops (mode_of op)) (has op.tuple j) ∙ stops-lock_of op (held plan j (client_at s j)) (held_distinct plan j (client_at s j) (distinct j))))
+pub holder_same : (plan : Plan) (s : State) (locks : Locks) (c : ℕ) (op : Op) (by : ℕ) → HasLocks plan s locks → ((d : ℕ) → IsDistinct (script_now plan d (client_at s d)))
+    → IsLeastInTheWay (tables.in_the_way locks op.tuple (mode_of op)) c by → holder plan s c op ≡ Some by
+holder_same plan s locks c op by has distinct least =
+    let same = same_way plan s locks op has distinct in
+    holder_of_least plan s c op by (record { another = least.another; conflict = sym (same by) ∙ least.conflict; least = λ d lt n. sym (same d) ∙ least.least d lt n })
+
+pub free_same : (plan : Plan) (s : State) (locks : Locks) (c : ℕ) (op : Op) → HasLocks plan s locks → ((d : ℕ) → IsDistinct (script_now plan d (client_at s d)))
+    → IsFree (tables.in_the_way locks op.tuple (mode_of op)) c → holder plan s c op ≡ None
+free_same plan s locks c op has distinct free = holder_of_free plan s c op (λ d n. sym (same_way plan s locks op has distinct d) ∙ free d n)
 
 -- moves: a client's locks before one
 
@@ -376,13 +353,13 @@ locks_decided plan s locks c has within = same_locks plan s (decided plan s c (c
 
 -- a client that asked, whatever the table answered
 pub locks_asked : (plan : Plan) (s : State) (locks now : Locks) (c : ℕ) (op : Op) (grant : Grant) → HasLocks plan s locks → IsTried locks now op.tuple (mode_of op) c grant
-    → c < length s.clients → length s.clients ≤ 8 → next_op plan c (client_at s c) ≡ Some op → (client_at s c).installed ≡ 0 → ((d : ℕ) → IsDistinct (script_now plan d (client_at s d)))
+    → c < length s.clients → next_op plan c (client_at s c) ≡ Some op → (client_at s c).installed ≡ 0 → ((d : ℕ) → IsDistinct (script_now plan d (client_at s d)))
     → HasLocks plan (asked plan s c (client_at s c) op) now
-locks_asked plan s locks now c op Granted has tried within room next none distinct =
-    subst (λ (o : Option ℕ). HasLocks plan (by_holder plan s c (client_at s c) op o) now) (sym tried.0 ∙ holder_same plan s locks c op has room distinct)
+locks_asked plan s locks now c op Granted has tried within next none distinct =
+    subst (λ (o : Option ℕ). HasLocks plan (by_holder plan s c (client_at s c) op o) now) (sym (free_same plan s locks c op has distinct tried.0))
     (locks_granted plan s locks now c op has tried.1 within next none (distinct c))
-locks_asked plan s locks now c op (HeldBy other) has tried within room next none distinct =
-    subst (λ (o : Option ℕ). HasLocks plan (by_holder plan s c (client_at s c) op o) now) (sym tried.0 ∙ holder_same plan s locks c op has room distinct)
+locks_asked plan s locks now c op (HeldBy other) has tried within next none distinct =
+    subst (λ (o : Option ℕ). HasLocks plan (by_holder plan s c (client_at s c) op o) now) (sym (holder_same plan s locks c op other has distinct tried.0))
     (subst (λ (l : Locks). HasLocks plan (refused plan s c (client_at s c) op other) l) (sym tried.1) (locks_refused plan s locks c op other has within none))
 
 -- behind an installation

@@ -1,3 +1,4 @@
+pub mod AnsweredEntries
 pub mod Asks
 pub mod Clients
 pub mod Counts

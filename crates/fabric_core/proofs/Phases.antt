@@ -6,16 +6,16 @@ use Rattle.history_model.specs.History.{History}
 use Rattle.catalogue.specs.Plan.{Plan, PlainItem, Run, Lose, item_of}
 use Rattle.client_phase.specs.Shown.{PlainClient, plain_client}
 use Rattle.client_phase.specs.declared.client_state.ClientState as code
+use Rattle.core_model.specs.declared.item_end.ItemEnd.TheVariants.{Pending, Lost}
 use Rattle.core_model.specs.declared.phase.Phase.{Phase}
+use Rattle.core_model.specs.Ends.{answered_entry, script_end, end_of, item_end}
 use Rattle.core_model.specs.Laws.{IsFinished, IsReached}
 use Rattle.core_model.specs.Rota.{is_finished, has_finished, all_finished}
 use Rattle.core_model.specs.State.{ClientState, State, client_at}
 use Rattle.core_model.proofs.Driven.{finished_by_test}
 use Rattle.core_model.proofs.Reached.{clients_stay}
-use Rattle.fabric_core.specs.ItemEnds.{entry_of, script_end, end_of, item_end}
 use Rattle.fabric_core.specs.Standing.{StandsFor, shown_from}
 use Rattle.fabric_core.specs.declared.core_state.CoreState.{CoreState}
-use Rattle.fabric_core.specs.declared.ends.ItemEnd.TheVariants.{Pending, Lost}
 use Rattle.fabric_core.proofs.Shown.{as_many, kept_at}
 
 first_phase : {a b : PlainClient} {ps qs : List PlainClient} → a ∷ ps ≡ b ∷ qs → a.phase ≡ b.phase
@@ -64,9 +64,9 @@ is_client (items ∷ lists) (suc c) seq some = omega (arith, is_client lists c s
 
 -- the end of an item that is a transaction, and of a loss
 pub run_end : (plan : Plan) (s : State) (c seq present : ℕ) (ops : List Op) (h : History) → item_of plan c seq ≡ Some (Run ops) → h ≡ s.history → present ≡ (client_at s c).seq
-    → script_end (entry_of c seq h) seq present ≡ item_end plan s c seq
+    → script_end (answered_entry c seq h) seq present ≡ item_end plan s c seq
 run_end plan s c seq present ops h is same now =
-    ap (λ (k : History). script_end (entry_of c seq k) seq present) same ∙ ap (script_end (entry_of c seq s.history) seq) now ∙ sym (ap (end_of s c seq) is)
+    ap (λ (k : History). script_end (answered_entry c seq k) seq present) same ∙ ap (script_end (answered_entry c seq s.history) seq) now ∙ sym (ap (end_of s c seq) is)
 
 pub loss_end : (plan : Plan) (s : State) (c seq present : ℕ) → item_of plan c seq ≡ Some Lose → present ≡ (client_at s c).seq → (if nat_lt seq present then Lost else Pending) ≡ item_end plan s c seq
 loss_end plan s c seq present is now = ap (λ (n : ℕ). if nat_lt seq n then Lost else Pending) now ∙ sym (ap (end_of s c seq) is)

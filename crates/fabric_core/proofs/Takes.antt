@@ -37,7 +37,6 @@ taken_state run actors is = ap (λ (o : Option State). unwrap_or o (opening run.
 pub taken_run : {R : Type 0} (run : Running R) (actors : List Actor) → IsRun run → IsRun (taken run actors)
 taken_run run actors is = record {
   reached = subst (IsReached run.plan) (sym (taken_state run actors is)) (reached_turns run.plan (state_in run) actors is.reached);
-  no_loss = is.no_loss;
   made = made_turns run actors is ∙ ap Some (sym (taken_state run actors is));
 }
 
@@ -137,14 +136,14 @@ pub record IsDriving {R : Type 0} (old now : Running R) : Type 0 where
 pub driving_round : {R : Type 0} (old now next : Running R) → IsDriving old now → next ≡ taken now (rota now.plan) → IsDriving old next
 driving_round old now next is same = subst (IsDriving old) (sym same) (record {
   run = taken_run now (rota now.plan) is.run;
-  whole = parts_on now (rota now.plan) is.run ∙ ap (with_moves now) (sym (driven_again now.plan (state_in now) is.run.reached is.run.no_loss)) ∙ is.whole;
+  whole = parts_on now (rota now.plan) is.run ∙ ap (with_moves now) (sym (driven_again now.plan (state_in now) is.run.reached)) ∙ is.whole;
 })
 
 pub driving_lessens : {R : Type 0} (now next : Running R) (b : Bool) → IsRun now → IsTrue b ↔ IsFinished (state_in now) → b ≡ false → next ≡ taken now (rota now.plan)
     → moves_left next.plan (state_in next) < moves_left now.plan (state_in now)
 driving_lessens now next b run test is same =
     subst (λ (r : Running _). moves_left r.plan (state_in r) < moves_left now.plan (state_in now)) (sym same)
-    (subst (λ (s : State). moves_left now.plan s < moves_left now.plan (state_in now)) (sym (taken_state now (rota now.plan) run)) (rota_lessens now.plan (state_in now) run.reached run.no_loss (finished_test (state_in now) b test ∙ is)))
+    (subst (λ (s : State). moves_left now.plan s < moves_left now.plan (state_in now)) (sym (taken_state now (rota now.plan) run)) (rota_lessens now.plan (state_in now) run.reached (finished_test (state_in now) b test ∙ is)))
 
 pub driving_ends : {R : Type 0} (old now : Running R) (b : Bool) → IsDriving old now → IsTrue b ↔ IsFinished (state_in now) → b ≡ true → now ≡ driven_on old []
 driving_ends old now b is test done = sym (no_moves now) ∙ ap (with_moves now) (sym (driven_done now.plan (state_in now) [] (finished_test (state_in now) b test ∙ done))) ∙ is.whole

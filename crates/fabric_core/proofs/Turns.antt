@@ -14,6 +14,7 @@ use Rattle.core_model.specs.declared.phase.Phase.{Phase}
 use Rattle.core_model.specs.declared.phase.Phase.TheVariants.{Ready, Locking, Aborting, Logged, Waiting, Installing, Finished}
 use Rattle.core_model.specs.State.{ClientState, State, client_at, script_now}
 use Rattle.core_model.specs.Step.{step}
+use Rattle.core_model.proofs.Cold.{no_loss_from_items}
 use Rattle.core_model.proofs.Reached.{present_of}
 use Rattle.core_model.proofs.Stuck.{some_op}
 use Rattle.fabric_core.specs.Standing.{IsActionIn, IsTurnIn, action_in}
@@ -58,7 +59,7 @@ module _ (plan : Plan) (core : CoreState) (c at : ℕ) (s : State) (turn : IsTur
       finished : (p : Phase) → x.phase ≡ p → (p ≡ Finished → ⊥) → ⊥
       finished p e active =
           let here = present_of plan s turn.reached c (λ f. active (sym e ∙ f)) in
-          omega (arith, empty, some_op plan c x turn.reached.sound turn.no_loss here.0 here.1)
+          omega (arith, empty, some_op plan c x turn.reached.sound (no_loss_from_items plan turn.reached.cold) here.0 here.1)
 
       by : (p : Phase) → x.phase ≡ p → step plan s (Client c) ≡ None
       by Ready e = absurd (finished Ready e (λ f. cc))

@@ -7,11 +7,10 @@ use Rattle.catalogue.specs.declared.actor.Actor.{Actor}
 use Rattle.catalogue.specs.declared.actor.Actor.TheVariants.{Client, Port, Stage, Recover}
 use Rattle.core_model.specs.Bound.{move_bound}
 use Rattle.core_model.specs.Built.{has_cold_items}
-use Rattle.core_model.specs.Laws.{IsReached, HasNoLoss}
+use Rattle.core_model.specs.Laws.{IsReached}
 use Rattle.core_model.specs.Run.{opening, state_of, state_now}
 use Rattle.core_model.specs.State.{State}
 use Rattle.core_model.specs.Step.{step}
-use Rattle.core_model.proofs.Cold.{cold_from_items, no_loss_from_items}
 use Rattle.core_model.proofs.Legal.{moves_bounded}
 use Rattle.core_model.proofs.Reached.{fewer_moves, moves_are_the_trace}
 use Rattle.core_model.proofs.Refusals.{one_more}
@@ -24,7 +23,6 @@ use Rattle.fabric_core.specs.declared.core_state.CoreState.{CoreState}
 -- the run of a sound session of transactions on hosts alone
 pub record IsRun {R : Type 0} (run : Running R) : Type 0 where
   pub reached : IsReached run.plan (state_in run)
-  pub no_loss : HasNoLoss run.plan
   pub made : state_of run.plan run.trace ≡ Some (state_in run)
 
 -- a world that begins
@@ -45,10 +43,10 @@ kept_first session plan core trace named sound built stands empty space =
 
 module _ (session plan : Plan) (core : CoreState) (trace : Listed Actor) (kept : IsKept session plan core trace) where
   pub is_reached : IsReached plan (state_now plan trace.items)
-  is_reached = record { sound = kept.sound; cold = cold_from_items plan kept.built; trace = trace.items; run = kept.run }
+  is_reached = record { sound = kept.sound; cold = kept.built; trace = trace.items; run = kept.run }
 
   pub is_run : {R : Type 0} (rack : R) → IsRun (record { plan = plan; trace = trace.items; rack = rack })
-  is_run rack = record { reached = is_reached; no_loss = no_loss_from_items plan kept.built; made = kept.run }
+  is_run rack = record { reached = is_reached; made = kept.run }
 
   -- as many moves were made as the trace has, and they are few
   pub is_short : length trace.items ≤ 2039808
@@ -58,7 +56,6 @@ module _ (session plan : Plan) (core : CoreState) (trace : Listed Actor) (kept :
   pub its_turn : (c at : ℕ) → c < length plan.clients → at ≡ length trace.items → IsTurnIn plan core c at (state_now plan trace.items)
   its_turn c at lt is = record {
     reached = is_reached;
-    no_loss = no_loss_from_items plan kept.built;
     stands = kept.stands;
     within = lt;
     moves = moves_are_the_trace plan trace.items (state_now plan trace.items) kept.run ∙ sym is;

@@ -1,5 +1,4 @@
 pub mod Held
-pub mod ItemEnds
 pub mod Kept
 pub mod Running
 pub mod Standing

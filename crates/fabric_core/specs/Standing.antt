@@ -7,9 +7,10 @@ use Rattle.catalogue.specs.Plan.{Plan}
 use Rattle.catalogue.specs.Sound.{item_count}
 use Rattle.catalogue.specs.declared.actor.Actor.TheVariants.{Client}
 use Rattle.host_locks.specs.Locks.{has_tuple}
-use Rattle.core_model.specs.Laws.{IsReached, HasNoLoss}
+use Rattle.core_model.specs.Laws.{IsReached}
 use Rattle.core_model.specs.State.{ClientState, State, client_at, script_now}
 use Rattle.core_model.specs.Step.{step}
+use Rattle.history_core.specs.Runs.{runs_of}
 use Rattle.client_phase.specs.NextAction.{next_action}
 use Rattle.client_phase.specs.Shown.{PlainClient, plain_client, room_of, shown}
 use Rattle.client_phase.specs.declared.action.Action.{Action}
@@ -29,7 +30,7 @@ pub record StandsFor (plan : Plan) (s : State) (core : CoreState) : Type 0 where
   pub tuples : (t : TupleId) → has_tuple core.locks t ≡ is_some (fin.get plan.tuples t)
   pub store : core.store ≡ s.store
   pub history : core.history.items ≡ s.history
-  pub entries : item_count plan ≤ length core.history.items + core.history.spare
+  pub runs : core.history.runs ≡ runs_of plan
   pub refusals : core.refusals.items ≡ s.refusals
   pub refused : plan.tries * item_count plan ≤ length core.refusals.items + core.refusals.spare
 
@@ -40,7 +41,6 @@ action_in plan s c = let x = client_at s c in next_action x.phase (length x.note
 -- the code stands for a state that is reached without losses, behind this many moves, and it is the turn of one of the clients
 pub record IsTurnIn (plan : Plan) (core : CoreState) (c at : ℕ) (s : State) : Type 0 where
   pub reached : IsReached plan s
-  pub no_loss : HasNoLoss plan
   pub stands : StandsFor plan s core
   pub within : c < length plan.clients
   pub moves : s.moves ≡ at

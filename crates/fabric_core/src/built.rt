@@ -9,7 +9,7 @@ ghost use Rattle.core_model.specs.Built as built;
 use catalogue::{Item, Kind, Session};
 
 /// Whether each item is a transaction on hosts alone.
-pub(crate) fn has_cold_items(session: &Session) -> bool
+pub fn has_cold_items(session: &Session) -> bool
     ensures { result ≡ built.has_cold_items (plan_of session.now) }
 {
     for client in 0..session.clients() {

@@ -19,8 +19,7 @@ use crate::room::item_count;
 use catalogue::Session;
 use client_phase::{Action, ClientState};
 use core_model::Refusal;
-use history_core::History;
-use history_model::Entry;
+use history_core::{Entry, History};
 use host_locks::{Grant, LockTable, Mode};
 use host_store::HostStore;
 use std::alloc::Global;
@@ -42,14 +41,13 @@ impl CoreState {
         requires { IsSound (plan_of session.now) }
         ensures { IfOk result (λ core. StandsFor (plan_of session.now) (opening (plan_of session.now)) core) }
     {
-        let items = item_count(session);
-        let most = usize::from(session.tries) * items;
+        let most = usize::from(session.tries) * item_count(session);
         let ids = tuple_ids(alloc, &session.tuples)?;
         Ok(CoreState {
             clients: first_clients(alloc, session)?,
             locks: LockTable::fresh(alloc, ids.as_slice())?,
             store: HostStore::fresh(alloc, &session.tuples)?,
-            history: History::fresh(alloc, items)?,
+            history: History::for_session(alloc, session)?,
             refusals: Items::of(Vec::with_capacity(alloc, most)?),
         })
     }

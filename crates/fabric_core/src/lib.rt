@@ -14,7 +14,8 @@ mod room;
 mod turn;
 mod world;
 
-pub use ends::ItemEnd;
+pub use built::has_cold_items;
+pub use core_model::{ItemEnd, Refusal};
 pub use name::RunName;
 pub use room::move_bound;
 pub use turn::{BeginFault, End, Turn};

@@ -19,8 +19,6 @@ pub enum End {
 /// Why no world began.
 #[derive(Clone, Copy, Debug, PartialEq, Eq)]
 pub enum BeginFault {
-    /// The session has an item that loses the switch, or a transaction with a tuple in the switch.
-    NotBuilt,
     /// Memory ran out.
     NoMemory,
 }

@@ -13,20 +13,19 @@ ghost use Rattle.core_model.specs.Laws.{IsFinished, IsReached};
 ghost use Rattle.core_model.specs.Rota.{driven_from, is_finished, numbers_below, rota};
 ghost use Rattle.core_model.specs.Run.{opening, state_of};
 ghost use Rattle.core_model.specs.State.{seen_at, client_at};
-ghost use Rattle.fabric_core.specs.ItemEnds as ends;
+ghost use Rattle.core_model.specs.Ends as ends;
 ghost use Rattle.fabric_core.specs.Running.{state_in, taken, with_moves};
 ghost use Rattle.fabric_core.specs.Standing.{StandsFor};
 ghost use Rattle.fabric_core.specs.Turns.{IsTurn};
 
-use crate::built::has_cold_items;
 use crate::core_state::CoreState;
-use crate::ends::{ItemEnd, loss_end, script_end};
+use crate::ends::{loss_end, script_end};
 use crate::name::RunName;
 use crate::room::move_bound;
 use crate::turn::{BeginFault, End, Turn};
 use catalogue::{Actor, Actors, Item, Session};
 use client_phase::ClientState;
-use core_model::{Phase, Refusal};
+use core_model::{ItemEnd, Phase, Refusal};
 use history_core::History;
 use port_io::LogRack;
 use std::alloc::Global;
@@ -63,20 +62,19 @@ impl<L: LogRack, N: RunName> Model for World<L, N> {
 }
 
 impl<L: LogRack, N: RunName> World<L, N> {
-    /// Takes all room that the run of a session needs. `NotBuilt` comes exactly where an item is a loss of
-    /// the switch or a transaction with a tuple in the switch. After a fault the logs are handed back.
+    /// Takes all room that the run of a session needs. Today each of its items is a transaction on hosts
+    /// alone. After a fault the logs are handed back.
     pub fn begin(alloc: Global, session: Session, rack: L) -> Result<World<L, N>, (L, BeginFault)>
         requires sound { IsSound (plan_of session) }
+        requires built { has_cold_items (plan_of session) ≡ true }
+
+        // The run is named after its session and its rack.
         requires named { plan_of session ≡ N.session }
+        requires faults { L.faults rack ≡ N.faults }
+        requires kept { L.keeps rack ≡ N.kept }
         ensures begun { IfOk result (λ world. world ≡ record { plan = plan_of session; trace = []; rack = rack }) }
-        ensures built { IfOk result (λ _. has_cold_items (plan_of session) ≡ true) }
-        ensures not_built { IfErr result (λ err. err.1 ≡ BeginFault.NotBuilt → has_cold_items (plan_of session) ≡ false) }
-        ensures no_memory { IfErr result (λ err. err.1 ≡ BeginFault.NoMemory → has_cold_items (plan_of session) ≡ true) }
         ensures rack { IfErr result (λ err. err.0 ≡ rack) }
     {
-        if !has_cold_items(&session) {
-            return Err((rack, BeginFault::NotBuilt));
-        }
         match room_of(alloc, &session) {
             Ok((core, trace)) => Ok(World {
                 session,

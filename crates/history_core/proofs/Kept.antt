@@ -1,67 +1,114 @@
--- What the entries and the replies that are kept say of the history that they stand for.
-use Rattle.std.proofs.Common.{◌≡◌, ℕ, ◌<◌, List, length, get_or, set, slice_get, position, Option, Some, None, option_map, sym, ap, ap₂, subst, ◌∙◌, arith}
-use Rattle.std.specs.List.{insert, position_or_len}
-use Rattle.std.specs.Ordering.{is_lt}
-use Rattle.std.proofs.lemmas.Option.{slice_get-get_or}
+-- A client's entries as they are kept.
+use Rattle.std.proofs.Common.{◌≡◌, ◌≢◌, ℕ, zero, suc, ◌+◌, ◌-◌, ◌<◌, ◌≤◌, ◌==◌, Bool, true, false, List, [], ◌∷◌, ◌++◌, length, map, find, set, get_or, Option, Some, None, Result, Ok, Err, MatchResult, HoldsAt, is_some, if◌then◌else◌, inl, inr, refl, sym, ap, subst, ◌∙◌, arith, Ordering, Less, Equal, Greater}
+use Rattle.std.specs.List.{AllByRecursion}
+use Rattle.std.specs.List.Sorted.{IsBinarySearchResult, IsSearchInRange, IsPartitionPoint}
+use Rattle.std.proofs.lemmas.Bool.{cases_lt}
+use Rattle.std.specs.Ordering.{nat_cmp, ordering_index}
+use Rattle.std.proofs.lemmas.Bool.Decides.{nat_tests}
+use Rattle.std.proofs.lemmas.Map.Lookups.{exact_unsigned}
+use Rattle.txn_model.specs.Listed.{Listed}
 use Rattle.txn_model.specs.declared.pairs.Pair.{Pair}
-use Rattle.history_model.specs.History.{HistoryEntry, History, entry_cmp, with_entry}
+use Rattle.history_model.specs.History.{HistoryEntry, History}
 use Rattle.history_model.specs.declared.entry.Entry.{Entry}
-use Rattle.history_core.specs.Answers.{is_of_item, reply_of, with_reply}
-use Rattle.history_core.specs.Entries.{plain_entry, plain_entries}
-use Rattle.history_core.specs.Reply.{pairs_of}
-use Rattle.history_core.specs.declared.reply.Reply.{Reply}
-use Rattle.history_core.proofs.Beside.{length-plain, plain-set, plain-insert, plain-get_or, position_or_len-plain}
-use Rattle.history_core.proofs.Placed.{found, not_found, with_entry-insert, with_reply-set, with_reply-none, reply_of-at, reply_of-none}
+use Rattle.history_core.specs.Own.{IsBefore, IsRising, plain_kept, without_open}
+use Rattle.history_core.specs.declared.own_entries.Kept.{Kept}
 
-nothing : Entry
-nothing = record { stamp = record { number = 0; sub = 0 }; client = 0; seq = 0 }
+-- ---- the last entry
 
-module _ (es : List Entry) (rs : List (Option Reply)) (same : length es ≡ length rs) (h : History) (view : plain_entries es rs ≡ h) where
-  pub length-kept : length es ≡ length h
-  length-kept = sym (length-plain es rs same) ∙ ap length view
+pub answered_end : (kepts : List Kept) (m : ℕ) (k : Kept) (pairs : Listed Pair) (ps : List Pair) (before : History) (entry : Entry) → suc m ≡ length kepts → k ≡ get_or kepts m k → pairs.items ≡ ps
+    → map plain_kept kepts ≡ before ++ record { entry = entry; pairs = None } ∷ []
+    → map plain_kept (set kepts m (record { entry = k.entry; is_answered = true; pairs = pairs })) ≡ before ++ record { entry = entry; pairs = Some ps } ∷ []
+answered_end [] m k pairs ps before entry len is items ends = absurd (omega (arith, len))
+answered_end (x ∷ []) zero k pairs ps [] entry len is items ends =
+    ap (λ (e : Entry). record { entry = e; pairs = Some pairs.items } ∷ []) (ap (λ (y : Kept). y.entry) is ∙ same) ∙ ap (λ (l : List Pair). record { entry = entry; pairs = Some l } ∷ []) items
+  where
+    same : x.entry ≡ entry
+    same = let e : plain_kept x ≡ record { entry = entry; pairs = None } = cc in ap (λ (h : HistoryEntry). h.entry) e
+answered_end (x ∷ []) zero k pairs ps (b ∷ bs) entry len is items ends = absurd (omega (arith, ap length ends, long bs))
+  where
+    long : (bs : History) → 1 ≤ length (bs ++ record { entry = entry; pairs = None } ∷ [])
+    long [] = omega arith
+    long (b ∷ bs) = omega arith
+answered_end (x ∷ []) (suc m) k pairs ps before entry len is items ends = absurd (omega (arith, len))
+answered_end (x ∷ y ∷ kepts) zero k pairs ps before entry len is items ends = absurd (omega (arith, len))
+answered_end (x ∷ y ∷ kepts) (suc m) k pairs ps [] entry len is items ends = absurd (omega (arith, ap length ends))
+answered_end (x ∷ y ∷ kepts) (suc m) k pairs ps (b ∷ bs) entry len is items ends =
+    let first : plain_kept x ≡ b = cc in
+    let rest : map plain_kept (y ∷ kepts) ≡ bs ++ record { entry = entry; pairs = None } ∷ [] = cc in
+    ap (λ (e : HistoryEntry). e ∷ map plain_kept (set (y ∷ kepts) m (record { entry = k.entry; is_answered = true; pairs = pairs }))) first
+    ∙ ap (λ (h : History). b ∷ h) (answered_end (y ∷ kepts) m k pairs ps bs entry (omega (arith, len)) is items rest)
 
-  pub read : (i : ℕ) (e : Entry) (r : Option Reply) → i < length h → get_or h i (plain_entry (e, r)) ≡ plain_entry (get_or es i e, get_or rs i r)
-  read i e r lt = ap (λ (g : History). get_or g i (plain_entry (e, r))) (sym view) ∙ plain-get_or es rs i e r (omega (arith, lt, length-kept)) same
+module _ (k : Kept) where
+  pub stays : (kepts : List Kept) → k.is_answered ≡ true → map plain_kept (kepts ++ k ∷ []) ≡ without_open (map plain_kept (kepts ++ k ∷ []))
+  stays [] is = ap (λ (b : Bool). if is_some (if b then Some k.pairs.items else None) then plain_kept k ∷ [] else []) (sym is)
+  stays (x ∷ []) is = ap (λ (h : History). plain_kept x ∷ h) (stays [] is)
+  stays (x ∷ y ∷ kepts) is = ap (λ (h : History). plain_kept x ∷ h) (stays (y ∷ kepts) is)
 
-  pub got : (i : ℕ) (e : Entry) (r : Option Reply) → i < length h → e ≡ get_or es i e → r ≡ get_or rs i r → slice_get h i ≡ Some (plain_entry (e, r))
-  got i e r lt is_entry is_reply =
-      slice_get-get_or h i (plain_entry (e, r)) lt ∙ ap (λ (x : HistoryEntry). Some x) (read i e r lt ∙ ap₂ (λ (x : Entry) (y : Option Reply). plain_entry (x, y)) (sym is_entry) (sym is_reply))
+  pub goes : (kepts : List Kept) → k.is_answered ≡ false → map plain_kept kepts ≡ without_open (map plain_kept (kepts ++ k ∷ []))
+  goes [] is = ap (λ (b : Bool). if is_some (if b then Some k.pairs.items else None) then plain_kept k ∷ [] else []) (sym is)
+  goes (x ∷ []) is = ap (λ (h : History). plain_kept x ∷ h) (goes [] is)
+  goes (x ∷ y ∷ kepts) is = ap (λ (h : History). plain_kept x ∷ h) (goes (y ∷ kepts) is)
 
-  pub put : (e : Entry) (at : ℕ) (later : List Entry) (replies : List (Option Reply)) → at ≡ position_or_len (λ (f : Entry). is_lt (entry_cmp e f)) es
-      → later ≡ insert es at e → replies ≡ insert rs at None → plain_entries later replies ≡ with_entry (record { entry = e; pairs = None }) h
-  put e at later replies place is_later is_replies =
-      ap₂ plain_entries is_later is_replies
-      ∙ plain-insert es rs at e None same
-      ∙ ap (λ (g : History). insert g at (plain_entry (e, None))) view
-      ∙ ap (λ (k : ℕ). insert h k (plain_entry (e, None))) (place ∙ position_or_len-plain (λ (f : Entry). is_lt (entry_cmp e f)) es rs same ∙ ap (position_or_len (λ (f : HistoryEntry). is_lt (entry_cmp e f.entry))) view)
-      ∙ with_entry-insert (plain_entry (e, None)) h
+-- ---- the search by number
 
-  module _ (client seq : ℕ) where
-    pub within : (at : ℕ) → position (is_of_item client seq) h ≡ Some at → at < length h
-    within at is = (found (is_of_item client seq) h at is).within
+seq_later : (x : Kept) (kepts : List Kept) (j : ℕ) (d : Kept) → AllByRecursion (IsBefore (plain_kept x)) (map plain_kept kepts) → j < length kepts → x.entry.seq < (get_or kepts j d).entry.seq
+seq_later x [] j d all lt = absurd (omega (arith, lt))
+seq_later x (y ∷ kepts) zero d all lt = all.0.seq
+seq_later x (y ∷ kepts) (suc j) d all lt = seq_later x kepts j d all.1 (omega (arith, lt))
 
-    pub answered : (at : ℕ) → position (is_of_item client seq) h ≡ Some at → (reply : Reply) (pairs : List Pair) → pairs_of reply ≡ pairs
-        → plain_entries es (set rs at (Some reply)) ≡ with_reply client seq pairs h
-    answered at is reply pairs of_reply =
-        let here = found (is_of_item client seq) h at is in
-        let none = plain_entry (nothing, None) in
-        plain-set es rs at nothing (Some reply) (omega (arith, here.within, length-kept))
-        ∙ ap (λ (g : History). set g at (plain_entry (get_or es at nothing, Some reply))) view
-        ∙ ap₂ (λ (e : Entry) (ps : List Pair). set h at (record { entry = e; pairs = Some ps })) (sym (ap (λ (x : HistoryEntry). x.entry) (read at nothing None here.within))) of_reply
-        ∙ ap (λ (k : ℕ). set h k (record { entry = (get_or h k none).entry; pairs = Some pairs })) here.is
-        ∙ with_reply-set client seq none pairs h (subst (λ (k : ℕ). k < length h) here.is here.within)
+seq_rises : (kepts : List Kept) (i j : ℕ) (d : Kept) → IsRising (map plain_kept kepts) → i ≤ j → j < length kepts → (get_or kepts i d).entry.seq ≤ (get_or kepts j d).entry.seq
+seq_rises [] i j d rising le lt = absurd (omega (arith, lt))
+seq_rises (x ∷ kepts) zero zero d rising le lt = omega arith
+seq_rises (x ∷ kepts) zero (suc j) d rising le lt = omega (arith, seq_later x kepts j d rising.0 (omega (arith, lt)))
+seq_rises (x ∷ kepts) (suc i) zero d rising le lt = absurd (omega (arith, le))
+seq_rises (x ∷ kepts) (suc i) (suc j) d rising le lt = seq_rises kepts i j d rising.1 (omega (arith, le)) (omega (arith, lt))
 
-    pub unanswered : position (is_of_item client seq) h ≡ None → (pairs : List Pair) → h ≡ with_reply client seq pairs h
-    unanswered is pairs = with_reply-none client seq pairs h (not_found (is_of_item client seq) h is)
+index_rises : (a b s : ℕ) → a ≤ b → ordering_index (nat_cmp a s) ≤ ordering_index (nat_cmp b s)
+index_rises a b s le = grind (arith, nat_tests)
 
-    pub reply_there : (at : ℕ) → position (is_of_item client seq) h ≡ Some at → (r : Option Reply) → r ≡ get_or rs at r → option_map pairs_of r ≡ reply_of client seq h
-    reply_there at is r is_reply =
-        let here = found (is_of_item client seq) h at is in
-        let d = plain_entry (nothing, r) in
-        ap (option_map pairs_of) is_reply
-        ∙ sym (ap (λ (x : HistoryEntry). x.pairs) (read at nothing r here.within))
-        ∙ ap (λ (k : ℕ). (get_or h k d).pairs) here.is
-        ∙ reply_of-at client seq d h (subst (λ (k : ℕ). k < length h) here.is here.within)
+equal_is : (a b : ℕ) → a ≡ b → (a == b) ≡ true
+equal_is a b e = grind arith
 
-    pub reply_missing : position (is_of_item client seq) h ≡ None → None ≡ reply_of client seq h
-    reply_missing is = reply_of-none client seq h (not_found (is_of_item client seq) h is)
+other_is : (a b : ℕ) → a ≢ b → (a == b) ≡ false
+other_is a b e = grind arith
+
+tie_is : (a b : ℕ) → a ≡ b → nat_cmp a b ≡ Equal
+tie_is a b e = grind (arith, nat_tests)
+
+module _ (seq : ℕ) where
+  abbrev is_its : HistoryEntry → Bool
+  is_its e = e.entry.seq == seq
+
+  at_place : (kepts : List Kept) (i : ℕ) (d : Kept) → IsRising (map plain_kept kepts) → i < length kepts → (get_or kepts i d).entry.seq ≡ seq → Some (plain_kept (get_or kepts i d)) ≡ find is_its (map plain_kept kepts)
+  at_place [] i d rising lt is = absurd (omega (arith, lt))
+  at_place (x ∷ kepts) zero d rising lt is = ap (λ (b : Bool). if b then Some (plain_kept x) else find is_its (map plain_kept kepts)) (sym (equal_is x.entry.seq seq is))
+  at_place (x ∷ kepts) (suc i) d rising lt is =
+      let before = seq_later x kepts i d rising.0 (omega (arith, lt)) in
+      at_place kepts i d rising.1 (omega (arith, lt)) is
+      ∙ ap (λ (b : Bool). if b then Some (plain_kept x) else find is_its (map plain_kept kepts)) (sym (other_is x.entry.seq seq (λ e. absurd (omega (arith, before, is, e)))))
+
+  nowhere : (kepts : List Kept) → ((i : ℕ) (d : Kept) → i < length kepts → (get_or kepts i d).entry.seq ≢ seq) → None ≡ find is_its (map plain_kept kepts)
+  nowhere [] none = refl
+  nowhere (x ∷ kepts) none =
+      nowhere kepts (λ i d lt. none (suc i) d (omega (arith, lt)))
+      ∙ ap (λ (b : Bool). if b then Some (plain_kept x) else find is_its (map plain_kept kepts)) (sym (other_is x.entry.seq seq (none 0 x (omega arith))))
+
+  module _ (kepts : List Kept) (rising : IsRising (map plain_kept kepts)) (r : Result ℕ ℕ) (range : IsSearchInRange r (length kepts)) (result : IsBinarySearchResult (λ (k : Kept). nat_cmp k.entry.seq seq) kepts r) where
+    pub found : (at : ℕ) (k : Kept) → r ≡ Ok at → k ≡ get_or kepts at k → Some (plain_kept k) ≡ find is_its (map plain_kept kepts)
+    found at k is here =
+        let bound = subst (λ (x : Result ℕ ℕ). IsSearchInRange x (length kepts)) is range in
+        let holds = subst (λ (x : Result ℕ ℕ). IsBinarySearchResult (λ (y : Kept). nat_cmp y.entry.seq seq) kepts x) is result in
+        ap (λ (x : Kept). Some (plain_kept x)) here ∙ at_place kepts at k rising bound (exact_unsigned (get_or kepts at k).entry.seq seq (holds k))
+
+    pub not_found : (place : ℕ) → r ≡ Err place → None ≡ find is_its (map plain_kept kepts)
+    not_found place is =
+        let point = subst (λ (x : Result ℕ ℕ). IsBinarySearchResult (λ (y : Kept). nat_cmp y.entry.seq seq) kepts x) is result (λ i j d le lt. index_rises (get_or kepts i d).entry.seq (get_or kepts j d).entry.seq seq (seq_rises kepts i j d rising le lt)) in
+        nowhere kepts (λ i d lt same. clash i d lt same point)
+      where
+        clash : (i : ℕ) (d : Kept) → i < length kepts → (get_or kepts i d).entry.seq ≡ seq → IsPartitionPoint (λ (k : Kept). nat_cmp k.entry.seq seq ≡ Less) (λ (k : Kept). nat_cmp k.entry.seq seq ≡ Greater) kepts place → ⊥
+        clash i d lt same point =
+            let tied = tie_is (get_or kepts i d).entry.seq seq same in
+            elim (cases_lt i place) [
+              | inl below ↦ let l = point.0 i d (omega arith) below in cc
+              | inr above ↦ let g = point.1 i d (omega (arith, above)) lt in cc
+            ]

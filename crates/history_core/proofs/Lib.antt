@@ -1,7 +1,8 @@
 pub mod Answered
-pub mod Beside
-pub mod Placed
-pub mod Kept
-pub mod Compacted
 pub mod Running
-pub mod Ordered
+pub mod WithEntry
+pub mod Merged
+pub mod Walked
+pub mod Changes
+pub mod Kept
+pub mod Callers

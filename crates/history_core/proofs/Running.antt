@@ -1,5 +1,5 @@
 -- A history that is run entry by entry is legal exactly where each entry agrees.
-use Rattle.std.proofs.Common.{◌≡◌, ◌↔◌, ℕ, ◌+◌, ◌<◌, ◌≤◌, List, [], ◌∷◌, length, drop, get_or, Option, Some, None, IsSome, All, option_map, unwrap_or, refl, sym, ap, subst, drop_of_length-le}
+use Rattle.std.proofs.Common.{◌≡◌, ◌↔◌, ℕ, List, [], ◌∷◌, Option, Some, None, IsSome, All, unwrap_or, refl, sym, ap, subst}
 use Rattle.std.specs.List.{AllByRecursion}
 use Rattle.std.specs.FinMap as fin
 use Rattle.std.proofs.lemmas.List.Elements.{recursion_from_All, All-from_recursion}
@@ -13,26 +13,21 @@ use Rattle.catalogue.specs.Sound.{IsSound}
 use Rattle.catalogue.proofs.SoundLaws.{sound_script}
 use Rattle.history_model.specs.History.{HistoryEntry, History}
 use Rattle.history_model.specs.Legal.{HasReply, IsLegal}
-use Rattle.history_model.specs.declared.entry.Entry.{Entry}
-use Rattle.history_core.specs.Entries.{plain_entry, plain_entries}
-use Rattle.history_core.specs.Reply.{pairs_of}
-use Rattle.history_core.specs.declared.reply.Reply.{Reply}
-use Rattle.history_core.proofs.Beside.{plain-next}
 
 -- the tuples of the operations are there
 abbrev pub AreThere : Tuples → List Op → Type 0
 AreThere m ops = AllByRecursion (λ op. IsSome (fin.get m op.tuple)) ops
 
 module _ (script : ℕ → ℕ → List Op) (e : HistoryEntry) (h : History) (m : Tuples) where
-  legal-next : HasReply e.pairs (serial (script e.entry.client e.entry.seq) m).reply → IsLegal script m (e ∷ h) ↔ IsLegal script (serial (script e.entry.client e.entry.seq) m).after h
+  pub legal-next : HasReply e.pairs (serial (script e.entry.client e.entry.seq) m).reply → IsLegal script m (e ∷ h) ↔ IsLegal script (serial (script e.entry.client e.entry.seq) m).after h
   unfolding serial_run
   legal-next agrees = (λ legal. legal.1, λ rest. (agrees, rest))
 
-  first-agrees : IsLegal script m (e ∷ h) → HasReply e.pairs (serial (script e.entry.client e.entry.seq) m).reply
+  pub first-agrees : IsLegal script m (e ∷ h) → HasReply e.pairs (serial (script e.entry.client e.entry.seq) m).reply
   unfolding serial_run
   first-agrees legal = legal.0
 
-legal-nil : (script : ℕ → ℕ → List Op) (m : Tuples) → IsLegal script m []
+pub legal-nil : (script : ℕ → ℕ → List Op) (m : Tuples) → IsLegal script m []
 unfolding serial_run
 legal-nil script m = tt
 
@@ -59,29 +54,19 @@ pub empty_after : (script : List Op) (m : Tuples) → script ≡ [] → m ≡ (s
 unfolding serial_from
 empty_after script m e = ap (λ (ops : List Op). (serial ops m).after) (sym e)
 
--- what is left from a place on is legal exactly where the whole is
-module _ (plan : Plan) (es : List Entry) (rs : List (Option Reply)) (m : Tuples) (i : ℕ) (whole : Type 0)
-    (rest : IsLegal (script_at plan) m (plain_entries (drop i es) (drop i rs)) ↔ whole) where
-  pub ended : length es ≤ i → whole
-  ended past = rest.0 (subst (λ (l : List Entry). IsLegal (script_at plan) m (plain_entries l (drop i rs))) (sym (drop_of_length-le es past)) (legal-nil (script_at plan) m))
+-- what is left is legal from here on exactly where the whole is
+module _ (plan : Plan) (m : Tuples) (whole : Type 0) where
+  pub ended : (left : History) → left ≡ [] → IsLegal (script_at plan) m left ↔ whole → whole
+  ended left is rest = rest.0 (subst (IsLegal (script_at plan) m) (sym is) (legal-nil (script_at plan) m))
 
-  module _ (same : length es ≡ length rs) (inside : i < length es) (d : Entry) (r : Option Reply) (is_reply : r ≡ get_or rs i r) (reply : List Pair)
-      (ran : reply ≡ (serial (script_at plan (get_or es i d).client (get_or es i d).seq) m).reply) where
-    abbrev e : HistoryEntry
-    e = plain_entry (get_or es i d, r)
-
-    abbrev left : History
-    left = plain_entries (drop (i + 1) es) (drop (i + 1) rs)
-
-    begins : plain_entries (drop i es) (drop i rs) ≡ e ∷ left
-    begins = plain-next es rs i (get_or es i d) d r inside same refl is_reply
-
-    pub goes_on : (after : Tuples) → after ≡ (serial (script_at plan e.entry.client e.entry.seq) m).after → HasReply (option_map pairs_of r) reply → IsLegal (script_at plan) after left ↔ whole
-    goes_on after is agrees =
-        let one = legal-next (script_at plan) e left m (subst (HasReply e.pairs) ran agrees) in (
-          λ legal. rest.0 (subst (IsLegal (script_at plan) m) (sym begins) (one.1 (subst (λ (n : Tuples). IsLegal (script_at plan) n left) is legal))),
-          λ w. subst (λ (n : Tuples). IsLegal (script_at plan) n left) (sym is) (one.0 (subst (IsLegal (script_at plan) m) begins (rest.1 w))),
+  module _ (left later : History) (e : HistoryEntry) (is : left ≡ e ∷ later) (rest : IsLegal (script_at plan) m left ↔ whole)
+      (reply : List Pair) (ran : reply ≡ (serial (script_at plan e.entry.client e.entry.seq) m).reply) where
+    pub goes_on : (after : Tuples) → after ≡ (serial (script_at plan e.entry.client e.entry.seq) m).after → HasReply e.pairs reply → IsLegal (script_at plan) after later ↔ whole
+    goes_on after becomes agrees =
+        let one = legal-next (script_at plan) e later m (subst (HasReply e.pairs) ran agrees) in (
+          λ legal. rest.0 (subst (IsLegal (script_at plan) m) (sym is) (one.1 (subst (λ (n : Tuples). IsLegal (script_at plan) n later) becomes legal))),
+          λ w. subst (λ (n : Tuples). IsLegal (script_at plan) n later) (sym becomes) (one.0 (subst (IsLegal (script_at plan) m) is (rest.1 w))),
         )
 
-    pub agreed : whole → HasReply (option_map pairs_of r) reply
-    agreed w = subst (HasReply e.pairs) (sym ran) (first-agrees (script_at plan) e left m (subst (IsLegal (script_at plan) m) begins (rest.1 w)))
+    pub agreed : whole → HasReply e.pairs reply
+    agreed w = subst (HasReply e.pairs) (sym ran) (first-agrees (script_at plan) e later m (subst (IsLegal (script_at plan) m) is (rest.1 w)))

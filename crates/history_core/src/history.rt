@@ -1,174 +1,153 @@
 //! Histories.
 
-ghost use Rattle.std.specs.Prelude.{◌≡◌, ◌==◌, ◌&&◌, ◌≤◌, ◌+◌, ◌<◌, ◌↔◌, [], length, map, take, slice_get, filter, position, IsSorted, IfOk, IsTrue, Some, None};
-ghost use Rattle.std.specs.List.{position_or_len};
-ghost use Rattle.std.specs.Option.{option_map, option_and_then};
-ghost use Rattle.std.specs.Ordering.{is_lt};
+ghost use Rattle.std.specs.Prelude.{◌≡◌, ◌==◌, ◌↔◌, ◌≤◌, [], ℕ, length, map, IfOk, IsSome, IsTrue, Some, None};
+ghost use Rattle.std.specs.Option.{option_map};
+ghost use Rattle.catalogue.specs.Plan.{script_at};
 ghost use Rattle.catalogue.specs.PlanOf.{plan_of};
 ghost use Rattle.catalogue.specs.Sound.{IsSound};
-ghost use Rattle.history_model.specs.History.{with_entry, entry_cmp};
+ghost use Rattle.history_model.specs.History.{IsInStampOrder, with_entry};
 ghost use Rattle.history_model.specs.Legal.{IsLegal};
-ghost use Rattle.history_core.specs.Answers.{is_of_item, reply_of, with_reply, answered_ones};
-ghost use Rattle.history_core.specs.Entries.{plain_entries};
-ghost use Rattle.catalogue.specs.Plan.{script_at};
+ghost use Rattle.history_core.specs.Answers.{entries_of, entry_of, reply_of, with_reply, answered_ones, HasNoneTwice, IsAboveOwn, IsOpenLast, OnlyLastOpen};
+ghost use Rattle.history_core.specs.Merge.{AreOwn, all_entries, all_runs};
+ghost use Rattle.history_core.specs.Own.{plain_kept};
+ghost use Rattle.history_core.specs.Runs.{ops_at, runs_of};
 
 use crate::legal::are_legal;
-use crate::reply::{MOST_PAIRS, Reply};
+use crate::own_entries::{Kept, OwnEntries};
+use crate::walk::Walk;
 use catalogue::Session;
 use history_model::Entry;
 use std::alloc::Global;
 use std::marker::Model;
-use txn_model::{NoMemory, Pair, Pairs};
+use txn_model::{NoMemory, Pairs};
 
-/// The entries of a run's transactions in stamp order, each with its pairs where it is answered. Its
-/// `spare` says how many more entries have room.
+/// The entries of a run's transactions, each with its pairs where it is answered.
 ///
-/// Replies stand beside the entries, so that a look-up reads the entries alone.
+/// They are kept by client, each client's as they came, and are merged in stamp order where they are
+/// read. There is room for an entry and a reply of each item, so that nothing but making one takes
+/// memory.
 #[derive(Debug, Drop)]
 pub struct History {
-    entries: Vec<Entry>,
-    replies: Vec<Option<Reply>>,
+    owns: Vec<OwnEntries>,
 }
 
 impl Model for History {
-    ghost use Rattle.txn_model.specs.Listed.{Listed, listed_code};
-    ghost use Rattle.history_model.specs.History.{HistoryEntry};
+    ghost use Rattle.history_core.specs.Recorded.{Recorded, recorded_code};
 
-    ghost Value = { Listed HistoryEntry };
+    ghost Value = { Recorded };
 
-    ghost use Rattle.std.specs.Prelude.{◌-◌, min, vec_len, vec_capacity};
-    ghost use Rattle.history_core.specs.Entries.{AreKept, plain_entries};
+    ghost coded = { recorded_code };
 
-    ghost view = { λ a. record { items = plain_entries a.entries.items a.replies.items; spare = min (vec_capacity a.entries - vec_len a.entries) (vec_capacity a.replies - vec_len a.replies) } };
+    ghost use Rattle.history_core.specs.Merge.{AreOwn, all_entries, all_runs};
 
-    ghost invariant = { λ a. AreKept a.entries.items a.replies.items };
+    ghost view = { λ a. record { items = all_entries a.owns.items; runs = all_runs a.owns.items } };
+
+    ghost invariant = { λ a. AreOwn a.owns.items };
 }
 
 impl History {
-    /// A history without entries, with room for at least as many as said.
-    pub fn fresh(alloc: Global, most: usize) -> Result<History, NoMemory>
-        ensures items { IfOk result (λ history. history.items ≡ []) }
-        ensures room { IfOk result (λ history. most ≤ history.spare) }
+    /// The history of a session before its run: no entries, and room for one of each transaction.
+    pub fn for_session(alloc: Global, session: &Session) -> Result<History, NoMemory>
+        requires { IsSound (plan_of session.now) }
+        ensures { IfOk result (λ history. history ≡ record { items = []; runs = runs_of (plan_of session.now) }) }
     {
-        Ok(History {
-            entries: Vec::with_capacity(alloc, most)?,
-            replies: Vec::with_capacity(alloc, most)?,
-        })
+        let clients = session.clients();
+        let mut owns = Vec::with_capacity(alloc, usize::from(clients))?;
+        for client in 0..clients {
+            owns.push(OwnEntries::fresh(alloc, session.clients.items(client))?)?;
+        }
+        Ok(History { owns })
     }
 
     /// Puts an entry in at its place in stamp order, unanswered.
     pub fn insert(&mut self, entry: Entry)
-        requires room { 1 ≤ self.old.spare }
-        ensures items { self.new.items ≡ with_entry (record { entry = entry; pairs = None }) self.old.items }
-        ensures spare { self.new.spare + 1 ≡ self.old.spare }
+        requires transaction { IsSome (ops_at self.old.runs entry.client entry.seq) }
+        requires above { IsAboveOwn entry self.old.items }
+        ensures { self.new ≡ record self.old { items = with_entry (record { entry = entry; pairs = None }) self.old.items } }
     {
-        let at = place_of(self.entries.as_slice(), &entry);
-        // There is room, so this takes no memory and doesn't fail.
-        let _ = self.entries.insert(at, entry);
-        let _ = self.replies.insert(at, None);
+        let own = &mut self.owns[usize::from(entry.client)];
+        own.push(entry);
     }
 
-    /// The place of the item's entry, counted from 0; None exactly where it has none.
-    pub fn find(&self, client: u8, seq: u32) -> Option<usize>
-        ensures place { result ≡ position (is_of_item client seq) self.now.items }
-        ensures entry { option_and_then (slice_get self.now.items) result ≡ slice_get (filter (is_of_item client seq) self.now.items) 0 }
-    {
-        self.entries
-            .iter()
-            .position(|entry| entry.client == client && entry.seq == seq)
-    }
-
-    /// Answers the entry of an item by the pairs of its reply. Nothing changes where the item has none.
+    /// Answers the entry of an item by the pairs of its reply.
     pub fn answer(&mut self, client: u8, seq: u32, pairs: &Pairs)
-        requires short { length pairs.now.items ≤ MOST_PAIRS }
-        ensures items { self.new.items ≡ with_reply client seq pairs.now.items self.old.items }
-        ensures spare { self.new.spare ≡ self.old.spare }
+        requires last { IsOpenLast client seq self.old.items }
+        requires pairs { ops_at self.old.runs client seq ≡ Some (length pairs.now.items) }
+        ensures { self.new ≡ record self.old { items = with_reply client seq pairs.now.items self.old.items } }
     {
-        if let Some(at) = self.find(client, seq) {
-            self.replies[at] = Some(Reply::of(pairs.as_slice()));
+        let own = &mut self.owns[usize::from(client)];
+        own.answer(pairs);
+    }
+
+    /// Takes the unanswered entries out, and keeps their room.
+    pub fn drop_unanswered(&mut self)
+        requires { (client : ℕ) → OnlyLastOpen (entries_of client self.old.items) }
+        ensures { self.new ≡ record self.old { items = answered_ones self.old.items } }
+    {
+        for own in self.owns.iter_mut() {
+            own.drop_open();
         }
     }
 
-    /// The pairs of the reply to an item; None exactly where it has no entry, or an unanswered one.
-    pub fn reply(&self, client: u8, seq: u32) -> Option<&[Pair]>
-        ensures { option_map (λ pairs. pairs.now) result ≡ reply_of client seq self.now.items }
+    /// The entries in stamp order: each stands before those that follow, and no item has two.
+    pub fn walk(&self) -> Walk<'_>
+        ensures entries { result ≡ self.now.items }
+        ensures order { IsInStampOrder self.now.items }
+        ensures once { HasNoneTwice self.now.items }
     {
-        match self.find(client, seq) {
-            Some(at) => Reply::pairs_of(&self.replies[at]),
-            None => None,
-        }
+        Walk::over(self.owns.as_slice(), self.len())
     }
 
     /// How many entries there are.
-    pub fn len(&self) -> usize
+    pub fn count(&self) -> u32
         ensures { result ≡ length self.now.items }
     {
-        self.entries.len()
+        self.len() as u32
     }
 
-    /// Whether there are none.
-    pub fn is_empty(&self) -> bool
-        ensures { IsTrue result ↔ (self.now.items ≡ []) }
+    /// The entry of an item; None exactly where it has none.
+    pub fn entry(&self, client: u8, seq: u32) -> Option<&Entry>
+        ensures { option_map (λ entry. entry.now) result ≡ option_map (λ e. e.entry) (entry_of client seq self.now.items) }
     {
-        self.entries.is_empty()
+        let kept = self.find(client, seq)?;
+        Some(&kept.entry)
     }
 
-    /// The entry at a place of the history, counted from 0, and its pairs where it is answered.
-    pub fn get(&self, i: usize) -> (Entry, Option<&[Pair]>)
-        requires { i < length self.now.items }
-        ensures { slice_get self.now.items i ≡ Some (record { entry = result.0; pairs = option_map (λ pairs. pairs.now) result.1 }) }
+    /// The pairs of the reply to an item; None exactly where it has no entry, or an unanswered one.
+    pub fn reply(&self, client: u8, seq: u32) -> Option<&Pairs>
+        ensures { option_map (λ pairs. pairs.now.items) result ≡ reply_of client seq self.now.items }
     {
-        (self.entries[i], Reply::pairs_of(&self.replies[i]))
-    }
-
-    /// The entries in stamp order.
-    pub fn entries(&self) -> &[Entry]
-        ensures { result.now ≡ map (λ e. e.entry) self.now.items }
-    {
-        self.entries.as_slice()
+        let kept = self.find(client, seq)?;
+        kept.reply()
     }
 
     /// Whether the scripts of all entries, run one after another on the session's first values, give each
-    /// answered entry its pairs. An entry that is no transaction of the session has an empty script.
+    /// answered entry its pairs.
     pub fn legal(&self, alloc: Global, session: &Session) -> Result<bool, NoMemory>
-        requires { IsSound (plan_of session.now) }
+        requires sound { IsSound (plan_of session.now) }
+        requires runs { self.now.runs ≡ runs_of (plan_of session.now) }
         ensures { IfOk result (λ legal. IsTrue legal ↔ IsLegal (script_at (plan_of session.now)) (plan_of session.now).tuples self.now.items) }
     {
-        are_legal(alloc, session, &self.entries, &self.replies)
+        are_legal(alloc, session, self.walk())
     }
 
-    /// Takes the unanswered entries out.
-    pub fn drop_unanswered(&mut self)
-        ensures items { self.new.items ≡ answered_ones self.old.items }
-        ensures room { self.old.spare ≤ self.new.spare }
+    /// The entry of an item with its reply.
+    fn find(&self, client: u8, seq: u32) -> Option<&Kept>
+        ensures { option_map (λ kept. plain_kept kept.now) result ≡ entry_of client seq self.now.items }
     {
-        let kept = answered_first(&mut self.entries, &mut self.replies);
-        self.entries.truncate(kept);
-        self.replies.truncate(kept);
+        let own = self.owns.get(usize::from(client))?;
+        own.find(seq)
     }
-}
 
-/// The place before the first entry that is behind this one.
-fn place_of(entries: &[Entry], entry: &Entry) -> usize
-    requires { IsSorted entry_cmp entries.now }
-    ensures { result ≡ position_or_len (λ e. is_lt (entry_cmp entry.now e)) entries.now }
-{
-    entries.partition_point(|other| !entry.stands_before(other))
-}
-
-/// Moves the answered entries to the front, with their replies and in their order. Returns how many they are.
-fn answered_first(entries: &mut [Entry], replies: &mut [Option<Reply>]) -> usize
-    requires { length entries.old ≡ length replies.old }
-    ensures bound { result ≤ length entries.old }
-    ensures front { plain_entries (take result entries.new) (take result replies.new) ≡ answered_ones (plain_entries entries.old replies.old) }
-{
-    let mut kept = 0;
-    for i in 0..entries.len() {
-        if replies[i].is_some() {
-            entries[kept] = entries[i];
-            replies[kept] = replies[i];
-            kept += 1;
+    /// How many entries there are.
+    fn len(&self) -> usize
+        ensures value { result ≡ length self.now.items }
+        ensures bound { result ≤ 4096 }
+    {
+        let mut entries = 0;
+        for own in &self.owns {
+            entries += own.len();
         }
+        entries
     }
-    kept
 }

@@ -1,17 +1,16 @@
 //! Whether the scripts of entries, run serially, give the replies that are kept.
 
-ghost use Rattle.std.specs.Prelude.{◌≡◌, ◌↔◌, length, All, IfOk, OnOk, IsTrue, IsSome};
-ghost use Rattle.std.specs.Option.{option_map};
+ghost use Rattle.std.specs.Prelude.{◌≡◌, ◌↔◌, All, IfOk, OnOk, IsTrue, IsSome};
 ghost use Rattle.std.specs.FinMap.{get};
 ghost use Rattle.txn_model.specs.Serial.{serial};
-ghost use Rattle.catalogue.specs.Plan.{script_of, script_at};
+ghost use Rattle.catalogue.specs.Plan.{script_at};
 ghost use Rattle.catalogue.specs.PlanOf.{plan_of};
 ghost use Rattle.catalogue.specs.Sound.{IsSound};
 ghost use Rattle.history_model.specs.Legal.{HasReply, IsLegal};
-ghost use Rattle.history_core.specs.Entries.{plain_entries};
-ghost use Rattle.history_core.specs.Reply.{pairs_of};
+ghost use Rattle.history_core.specs.Own.{plain_kept};
 
-use crate::reply::Reply;
+use crate::own_entries::Kept;
+use crate::walk::Walk;
 use catalogue::Session;
 use history_model::Entry;
 use std::alloc::Global;
@@ -38,31 +37,26 @@ fn run_item(
     Ok(pairs)
 }
 
-/// Whether the reply, where there is one, has these pairs.
-fn agrees(reply: &Option<Reply>, pairs: &[Pair]) -> bool
-    ensures { IsTrue result ↔ HasReply (option_map pairs_of reply.now) pairs.now }
+/// Whether the entry, where it is answered, has these pairs.
+fn agrees(kept: &Kept, pairs: &[Pair]) -> bool
+    ensures { IsTrue result ↔ HasReply (plain_kept kept.now).pairs pairs.now }
 {
-    match Reply::pairs_of(reply) {
-        Some(kept) => kept == pairs,
+    match kept.reply() {
+        Some(reply) => reply.as_slice() == pairs,
         None => true,
     }
 }
 
 /// Whether the entries' scripts, run serially on the session's first values, give the replies beside them.
-pub fn are_legal(
-    alloc: Global,
-    session: &Session,
-    entries: &[Entry],
-    replies: &[Option<Reply>],
-) -> Result<bool, NoMemory>
-    requires sound { IsSound (plan_of session.now) }
-    requires beside { length entries.now ≡ length replies.now }
-    ensures { IfOk result (λ legal. IsTrue legal ↔ IsLegal (script_at (plan_of session.now)) (plan_of session.now).tuples (plain_entries entries.now replies.now)) }
+pub(crate) fn are_legal(alloc: Global, session: &Session, entries: Walk) -> Result<bool, NoMemory>
+    requires { IsSound (plan_of session.now) }
+    ensures { IfOk result (λ legal. IsTrue legal ↔ IsLegal (script_at (plan_of session.now)) (plan_of session.now).tuples entries.entry) }
 {
+    let mut entries = entries;
     let mut tuples = session.tuples.copy(alloc)?;
-    for i in 0..entries.len() {
-        let pairs = run_item(alloc, session, &entries[i], &mut tuples)?;
-        if !agrees(&replies[i], pairs.as_slice()) {
+    while let Some(kept) = entries.next_kept() {
+        let pairs = run_item(alloc, session, &kept.entry, &mut tuples)?;
+        if !agrees(kept, pairs.as_slice()) {
             return Ok(false);
         }
     }

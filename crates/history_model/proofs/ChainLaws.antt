@@ -1,5 +1,5 @@
 -- Chains of values are serial runs.
-use Rattle.std.proofs.Common.{◌≡◌, ℕ, ℤ, pos, Bool, true, false, cond, List, [], ◌∷◌, ◌++◌, map, Option, Some, unwrap_or, MatchBool, if◌then◌else◌, ◌==◌, refl, sym, ap, ap₂, subst, ◌∙◌, arith, append_assoc, append-nil, nat_cmp, is_eq}
+use Rattle.std.proofs.Common.{◌≡◌, ℕ, ℤ, pos, Bool, true, false, List, [], ◌∷◌, ◌++◌, map, MatchBool, if◌then◌else◌, ◌==◌, refl, sym, ap, ap₂, subst, ◌∙◌, arith, append_assoc, append-nil}
 use Rattle.std.specs.FinMap as fin
 use Rattle.std.proofs.lemmas.Bool.Decides.{nat_tests}
 use Rattle.txn_model.specs.Needs.{needs_list}
@@ -8,25 +8,11 @@ use Rattle.txn_model.specs.Serial.{operand, effect, pair_of, serial, serial_from
 use Rattle.txn_model.specs.declared.op.Op.{Op}
 use Rattle.txn_model.specs.declared.op.TupleId.{TupleId}
 use Rattle.txn_model.specs.declared.pairs.Pair.{Pair}
-use Rattle.txn_model.proofs.TupleOrder.{tuple_cmp_total}
+pub use Rattle.txn_model.proofs.Values.{value_at-insert}
 use Rattle.history_model.specs.Chain.{Answered, Step, steps_of, all_steps, IsLocalFrom, Chain, last_value, HasChains, IsRunOf}
-
-same_number : (a b : ℕ) → is_eq (nat_cmp a b) ≡ (b == a)
-same_number a b = grind (arith, nat_tests)
 
 itself : (n : ℕ) → (n == n) ≡ true
 itself n = grind (arith, nat_tests)
-
--- the value at a tuple after a write
-pub value_at-insert : (m : Tuples) (k : TupleId) (v : ℤ) (t : TupleId) → value_at (fin.insert m k v) t ≡ (if k.0 == t.0 then v else value_at m t)
-value_at-insert m k v t =
-    ap (λ (o : Option ℤ). unwrap_or o (pos 0)) (fin.get-insert tuple_cmp_total m k v t)
-    ∙ ap (λ (b : Bool). unwrap_or (cond b (Some v) (fin.get m t)) (pos 0)) (same_number t.0 k.0)
-    ∙ choose (k.0 == t.0) (fin.get m t)
-  where
-    choose : (b : Bool) (o : Option ℤ) → unwrap_or (cond b (Some v) o) (pos 0) ≡ (if b then v else unwrap_or o (pos 0))
-    choose true o = refl
-    choose false o = refl
 
 -- where the tuple is named, the chain goes through the step
 at_named : (b : Bool) (P Q : Type 0) → b ≡ true → MatchBool b P Q → P

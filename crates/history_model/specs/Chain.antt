@@ -1,8 +1,8 @@
 -- Chains of values: what each operation on a tuple finds is what the one before on that tuple left.
-use Rattle.std.specs.Prelude.{◌≡◌, ◌⊎◌, ℤ, pos, true, false, List, [], ◌∷◌, ◌++◌, map, Bool, ◌==◌, if◌then◌else◌, MatchBool, ⊤}
+use Rattle.std.specs.Prelude.{◌≡◌, ◌⊎◌, ℤ, true, false, List, [], ◌∷◌, ◌++◌, map, Bool, ◌==◌, if◌then◌else◌, MatchBool, ⊤}
 use Rattle.std.specs.List.{flat_map, AllByRecursion}
-use Rattle.txn_model.specs.Needs.{needs_list}
-use Rattle.txn_model.specs.Serial.{operand, effect, serial, serial_run}
+pub use Rattle.txn_model.specs.Local.{IsLocalFrom}
+use Rattle.txn_model.specs.Serial.{serial, serial_run}
 use Rattle.txn_model.specs.Tuples.{Tuples, value_at}
 use Rattle.txn_model.specs.declared.op.Op.{Op}
 use Rattle.txn_model.specs.declared.op.TupleId.{TupleId}
@@ -25,14 +25,6 @@ steps_of (op ∷ ops) (p ∷ ps) = (op, p) ∷ steps_of ops ps
 -- the operations of all scripts with their pairs, in order
 abbrev pub all_steps : List Answered → List Step
 all_steps h = flat_map (λ e. steps_of e.0 e.1) h
-
--- behind the pairs in done, there is a pair for each operation, and what it leaves is the effect of what it found and of
--- the script's own pairs
-abbrev pub IsLocalFrom : List Pair → List Op → List Pair → Type 0
-IsLocalFrom done [] [] = ⊤
-IsLocalFrom done [] (p ∷ ps) = ⊥
-IsLocalFrom done (op ∷ ops) [] = ⊥
-IsLocalFrom done (op ∷ ops) (p ∷ ps) = (p.now ≡ effect op.act p.was (operand (needs_list op.needs) (pos 0) done)) × IsLocalFrom (done ++ p ∷ []) ops ps
 
 -- the pairs of a script are local: they follow from what was found alone
 abbrev pub IsLocal : Answered → Type 0

@@ -1,2 +1,1 @@
 pub mod LockLaws
-pub mod LeastHolder

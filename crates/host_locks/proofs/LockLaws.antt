@@ -10,7 +10,7 @@ use Rattle.std.proofs.lemmas.List.{get_or-set_other, get_or_past}
 use Rattle.std.proofs.lemmas.Bool.Decides.{nat_tests}
 use Rattle.txn_model.specs.Tuples.{tuple_cmp}
 use Rattle.txn_model.specs.declared.op.TupleId.{TupleId}
-use Rattle.host_locks.specs.Conflict.{stops, is_in_the_way, holder_from}
+use Rattle.host_locks.specs.Conflict.{stops}
 use Rattle.host_locks.specs.Locks.{Locks, modes_of, HasEight, has_tuple, mode_held, IsWithLock}
 use Rattle.host_locks.specs.declared.mode.Mode.{Mode}
 
@@ -37,23 +37,6 @@ pub written_elsewhere : (before now : Locks) (tuple t : TupleId) (modes : List (
 written_elsewhere before now tuple t modes written ne =
     let test : is_at (tuple_cmp tuple) t ≡ false = same_number tuple.0 t.0 ∙ grind (arith, nat_tests) in
     written t ∙ ap (λ b. cond b (Some modes) (modes_of before t)) test
-
--- the client at which the search stands is in the way, or the search goes on behind it
-pub holder_from-step : (held : ℕ → Option Mode) (mode : Mode) (client first : ℕ) → first < 8
-    → holder_from held mode client first (8 - first) ≡ cond (is_in_the_way held mode client first) (Some first) (holder_from held mode client (first + 1) (8 - (first + 1)))
-holder_from-step held mode client first below = ap (holder_from held mode client first) {y = suc (8 - (first + 1))} (omega arith)
-
-pub holder_from-end : (held : ℕ → Option Mode) (mode : Mode) (client first : ℕ) → 8 ≤ first → holder_from held mode client first (8 - first) ≡ None
-holder_from-end held mode client first above = ap (holder_from held mode client first) {y = zero} (omega arith)
-
-pub in_the_way : (held : ℕ → Option Mode) (mode : Mode) (client other : ℕ) → other ≢ client → stops mode (held other) ≡ true → is_in_the_way held mode client other ≡ true
-in_the_way held mode client other ne stopped = let apart : eqb other client ≡ false = grind (arith, nat_tests) in rw (apart, stopped) refl
-
-pub not_in_the_way : (held : ℕ → Option Mode) (mode : Mode) (client other : ℕ) → stops mode (held other) ≡ false → is_in_the_way held mode client other ≡ false
-not_in_the_way held mode client other free = rw free (elim (eqb other client) as (λ b. (not b && false) ≡ false) [ true ↦ refl | false ↦ refl ])
-
-pub own_is_not : (held : ℕ → Option Mode) (mode : Mode) (client other : ℕ) → other ≡ client → is_in_the_way held mode client other ≡ false
-own_is_not held mode client other own = let same : eqb other client ≡ true = grind (arith, nat_tests) in rw same refl
 
 -- a write of one client's mode, as the clients read it
 at_client : (modes : List (Option Mode)) (client c : ℕ) (mode : Option Mode) → client < length modes → slice_index_or (set modes client mode) c None ≡ cond (eqb c client) mode (slice_index_or modes c None)
@@ -150,3 +133,11 @@ below_eight locks t client eight holds =
             | Some ms ↦ λ e some. absurd (false≢true (sym (ap is_some (get_or_past ms client None (omega (arith, eight t ms e)))) ∙ some))
           ] refl holds
     ]
+
+-- clients beyond the eighth hold no lock
+pub none_beyond : (locks : Locks) (t : TupleId) (mode : Mode) (d : ℕ) → HasEight locks → 8 ≤ d → stops mode (mode_held locks t d) ≡ false
+none_beyond locks t mode d eight above = by (modes_of locks t) refl
+  where
+    by : (o : Option (List (Option Mode))) → modes_of locks t ≡ o → stops mode (option_and_then (λ (ms : List (Option Mode)). slice_index_or ms d None) o) ≡ false
+    by None is = refl
+    by (Some modes) is = ap (stops mode) (get_or_past modes d None (omega (arith, eight t modes is)))

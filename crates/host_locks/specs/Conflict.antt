@@ -1,5 +1,5 @@
--- Which locks can't stand together, and who is in the way of one who asks.
-use Rattle.std.specs.Prelude.{◌≡◌, ◌<◌, ℕ, zero, suc, ◌+◌, ◌==◌, ◌&&◌, Bool, true, false, not, Option, Some, None, if◌then◌else◌}
+-- Which locks can't stand together, and who stands in the way of one who asks.
+use Rattle.std.specs.Prelude.{◌≡◌, ◌≢◌, ◌<◌, ℕ, Bool, true, false, Option, Some, None}
 use Rattle.host_locks.specs.declared.mode.Mode.{Mode}
 use Rattle.host_locks.specs.declared.mode.Mode.TheVariants.{Shared, Exclusive}
 
@@ -13,17 +13,17 @@ abbrev pub stops : Mode → Option Mode → Bool
 stops mode None = false
 stops mode (Some held) = conflicts mode held
 
--- another client is in the way of this one, who asks for a tuple in this mode; held says how each client holds it
-abbrev pub is_in_the_way : (ℕ → Option Mode) → Mode → ℕ → ℕ → Bool
-is_in_the_way held mode client other = not (other == client) && stops mode (held other)
+-- The client is another one than the asker, and it stands in the way; no lower client but the asker does.
+pub record IsLeastInTheWay (stands : ℕ → Bool) (asker other : ℕ) : Type 0 where
+  pub another : other ≢ asker
+  pub conflict : stands other ≡ true
+  pub least : (d : ℕ) → d < other → d ≢ asker → stands d ≡ false
 
--- the least client in the way among count many from first on
-abbrev pub holder_from : (ℕ → Option Mode) → Mode → ℕ → (first count : ℕ) → Option ℕ
-holder_from held mode client first zero = None
-holder_from held mode client first (suc count) =
-    if is_in_the_way held mode client first then Some first else holder_from held mode client (first + 1) count
+-- no client but the asker stands in the way
+abbrev pub IsFree : (ℕ → Bool) → ℕ → Type 0
+IsFree stands asker = (d : ℕ) → d ≢ asker → stands d ≡ false
 
--- the client is in the way, and no lesser one is; none of 8 clients is in the way
-abbrev pub IsLeastInTheWay : (ℕ → Option Mode) → Mode → ℕ → Option ℕ → Type 0
-IsLeastInTheWay held mode client None = (d : ℕ) → d < 8 → is_in_the_way held mode client d ≡ false
-IsLeastInTheWay held mode client (Some other) = (other < 8) × (is_in_the_way held mode client other ≡ true) × ((d : ℕ) → d < other → is_in_the_way held mode client d ≡ false)
+-- who stands in the way of the asker: the least such client, or no one
+abbrev pub IsInTheWay : (ℕ → Bool) → ℕ → Option ℕ → Type 0
+IsInTheWay stands asker None = IsFree stands asker
+IsInTheWay stands asker (Some other) = IsLeastInTheWay stands asker other

@@ -5,7 +5,7 @@ use Rattle.std.specs.BTreeMap.{is_at}
 use Rattle.std.specs.Map.{lookup}
 use Rattle.txn_model.specs.Tuples.{tuple_cmp}
 use Rattle.txn_model.specs.declared.op.TupleId.{TupleId}
-use Rattle.host_locks.specs.Conflict.{holder_from, IsLeastInTheWay}
+use Rattle.host_locks.specs.Conflict.{stops, IsFree, IsLeastInTheWay}
 use Rattle.host_locks.specs.declared.mode.Grant.{Grant}
 use Rattle.host_locks.specs.declared.mode.Grant.TheVariants.{Granted, HeldBy}
 use Rattle.host_locks.specs.declared.mode.Mode.{Mode}
@@ -30,13 +30,9 @@ has_tuple locks t = is_some (modes_of locks t)
 abbrev pub mode_held : Locks → TupleId → ℕ → Option Mode
 mode_held locks t client = option_and_then (λ modes. slice_index_or modes client None) (modes_of locks t)
 
--- the least other client whose lock on the tuple is in the way of this client, who asks for it in this mode
-unfoldable pub holder : Locks → TupleId → Mode → ℕ → Option ℕ
-holder locks t mode client = holder_from (mode_held locks t) mode client 0 8
-
--- the answer is the least other client in the way, or that there is none
-abbrev pub IsLeastHolder : Locks → TupleId → Mode → ℕ → Option ℕ → Type 0
-IsLeastHolder locks t mode client answer = IsLeastInTheWay (mode_held locks t) mode client answer
+-- a client's lock on the tuple stands in the way of one who asks for it in this mode
+abbrev pub in_the_way : Locks → TupleId → Mode → ℕ → Bool
+in_the_way locks t mode client = stops mode (mode_held locks t client)
 
 -- the client's lock on the tuple is now this one, or none; all others are as before, and so are the tuples of the table
 pub record IsWithLock (before now : Locks) (tuple : TupleId) (client : ℕ) (mode : Option Mode) : Type 0 where
@@ -46,5 +42,5 @@ pub record IsWithLock (before now : Locks) (tuple : TupleId) (client : ℕ) (mod
 -- what became of a client that asked for the tuple: the lock is its own, where no one is in the way; else nothing changed, and
 -- the answer is the least client in the way
 abbrev pub IsTried : (before now : Locks) → TupleId → Mode → ℕ → Grant → Type 0
-IsTried before now tuple mode client Granted = (holder before tuple mode client ≡ None) × IsWithLock before now tuple client (Some mode)
-IsTried before now tuple mode client (HeldBy other) = (holder before tuple mode client ≡ Some other) × (now ≡ before)
+IsTried before now tuple mode client Granted = IsFree (in_the_way before tuple mode) client × IsWithLock before now tuple client (Some mode)
+IsTried before now tuple mode client (HeldBy other) = IsLeastInTheWay (in_the_way before tuple mode) client other × (now ≡ before)

@@ -4,11 +4,9 @@
 //! no value: who asks for which lock, and when it is given back, is its callers' business.
 #![tactic(auto)]
 
-mod laws;
 mod lock_table;
 mod mode;
 
-pub use laws::holder_is_least;
 pub use lock_table::{LockTable, MOST_CLIENTS};
 pub use mode::{Grant, Mode};
 

@@ -32,7 +32,8 @@ impl Model for LockTable {
 }
 
 impl LockTable {
-    ghost use Rattle.host_locks.specs.Locks.{has_tuple, mode_held, holder, IsWithLock, IsTried};
+    ghost use Rattle.host_locks.specs.Conflict.{IsInTheWay};
+    ghost use Rattle.host_locks.specs.Locks.{has_tuple, in_the_way, mode_held, IsWithLock, IsTried};
 
     /// The table of these tuples, without locks.
     pub fn fresh(alloc: Global, tuples: &[TupleId]) -> Result<LockTable, NoMemory>
@@ -78,10 +79,10 @@ impl LockTable {
     }
 
     /// The least other client whose lock on the tuple conflicts with this mode.
-    #[tactic(auto, unfolding(crate::specs::Locks::holder))]
     fn holder(&self, tuple: TupleId, mode: Mode, client: u8) -> Option<u8>
-        ensures { result ≡ holder self.now tuple mode client }
+        ensures { IsInTheWay (in_the_way self.now tuple mode) client result }
     {
+        let _ = &self.rows;
         for other in 0..MOST_CLIENTS {
             let held = self.mode_of(tuple, other);
             if other != client && is_stopped(mode, held) {

@@ -39,9 +39,7 @@ fn answer(rt: &HostRuntime) -> Note {
 
 fn main(rt: HostRuntime) -> ExitCode {
     let note = answer(&rt);
-    // Where the line can't be made or written, the status still tells.
-    if let Ok(line) = note.line(rt.alloc()) {
-        let _ = rt.eprint(line.as_str());
-    }
+    // Where the line can't be written, the status still tells.
+    let _ = rt.eprint(note);
     ExitCode::from(note.status())
 }

@@ -1,11 +1,12 @@
 -- A finished run of a session on hosts is serial, has each item once, and its aborts have causes.
-use Rattle.std.proofs.Common.{◌≡◌, ℕ, zero, suc, ◌+◌, ◌-◌, ◌<◌, ◌≤◌, ◌==◌, ◌&&◌, ◌||◌, nat_lt, Bool, true, false, cond, if◌then◌else◌, List, [], ◌∷◌, ◌++◌, map, filter, find, length, reverse, slice_get, get_or, Option, Some, None, IsSome, inl, inr, refl, sym, ap, subst, ◌∙◌, arith}
+use Rattle.std.proofs.Common.{◌≡◌, ◌≢◌, ℕ, zero, suc, ◌+◌, ◌-◌, ◌<◌, ◌≤◌, ◌==◌, ◌&&◌, ◌||◌, nat_lt, Bool, true, false, cond, if◌then◌else◌, List, [], ◌∷◌, ◌++◌, map, filter, find, length, reverse, slice_get, get_or, Option, Some, None, IsSome, inl, inr, refl, sym, ap, subst, ◌∙◌, arith}
 use Rattle.std.specs.List.{flat_map, range_with_len, list_all, list_any, AllByRecursion}
 use Rattle.std.specs.Option.{option_and_then, option_map}
 use Rattle.std.proofs.lemmas.Bool.Decides.{nat_tests}
 use Rattle.std.proofs.lemmas.List.{reverse-append}
 use Rattle.std.proofs.lemmas.List.Concat.{flat_map_single}
-use Rattle.catalogue.specs.Plan.{Plan, PlainItem, Run, Lose, items_of, item_of, script_in, script_of, kind_of}
+use Rattle.txn_model.specs.declared.op.Op.{Op}
+use Rattle.catalogue.specs.Plan.{Plan, PlainItem, Run, Lose, items_of, item_of, script_in, script_of, script_at, kind_of}
 use Rattle.catalogue.specs.declared.actor.Actor.{Actor}
 use Rattle.catalogue.specs.declared.kind.Kind.{Kind}
 use Rattle.catalogue.specs.declared.kind.Kind.TheVariants.{Hot, Cold}
@@ -13,19 +14,24 @@ use Rattle.history_model.specs.History.{HistoryEntry, History}
 use Rattle.core_model.specs.declared.phase.Phase.TheVariants.{Finished}
 use Rattle.core_model.specs.declared.refusal.Refusal.{Refusal}
 use Rattle.core_model.specs.Built.{has_cold_items, is_cold_item}
-use Rattle.core_model.specs.Ends.{has_entry, refused_times, IsEnded}
+use Rattle.core_model.specs.Ends.{item_end, refused_times, IsEnded}
+use Rattle.core_model.specs.declared.item_end.ItemEnd.{ItemEnd}
+use Rattle.core_model.specs.declared.item_end.ItemEnd.TheVariants.{Pending, Committed, Aborted, Lost}
 use Rattle.core_model.specs.Laws.{IsReached, IsFinished}
 use Rattle.core_model.specs.Rota.{numbers_below}
 use Rattle.core_model.specs.Run.{state_of}
 use Rattle.core_model.specs.State.{ClientState, State, at_item, client_at, zero_stamp}
+use Rattle.core_model.proofs.Cold.{cold_from_items}
 use Rattle.core_model.proofs.Decide.{item_at_place}
 use Rattle.core_model.proofs.Fewer.{each_entry}
-use Rattle.core_model.proofs.Legal.{legal_history, serial_values, items_in_order, items_end}
+use Rattle.core_model.proofs.Legal.{legal_history, serial_values, items_in_order}
+use Rattle.core_model.proofs.Fixed.{stamps_above}
+use Rattle.core_model.proofs.ItemEnds.{items_end}
 use Rattle.core_model.proofs.Refusals.{refusals_of_run}
-use Rattle.fabric_core.specs.ItemEnds.{entry_of}
-use Rattle.report_text.specs.Report.{PlainEnd, Lost, EndedItem}
-use Rattle.report_text.specs.RunReport.{last_refusal, given_up, script_told, end_told, with_end, item_told, client_told}
-use Rattle.p4db_top.specs.Serial.{IsSerial, name_of, IsOnceEach, IsAborted, HaveCauses}
+use Rattle.core_model.proofs.Rising.{rising_stamps}
+use Rattle.report_text.specs.Report.{PlainEnd, EndedItem}
+use Rattle.report_text.specs.RunReport.{last_refusal, given_up, told_by, reply_to, end_told, with_end, item_told, client_told}
+use Rattle.p4db_top.specs.Serial.{IsSerial, name_of, IsOnceEach, HaveCauses}
 use Rattle.p4db_top.proofs.Placed.{IsOfItem, are_placed}
 
 -- the item with a number from 1 to the number of items
@@ -65,37 +71,7 @@ module _ (plan : Plan) (s : State) (reached : IsReached plan s) (finished : IsFi
   all_past c seq within = omega (arith, within, ((are_placed plan s reached).each c).behind (finished_at s.clients c finished))
 
   ended : (c seq : ℕ) → IsSome (item_of plan c seq) → IsEnded plan s c seq
-  ended c seq some = let at = place_of_item plan c seq some in items_end plan s reached c seq at.0 (all_past c seq at.1)
-
--- whether an item has an entry among one more
-has_entry-cons : (c seq : ℕ) (x : HistoryEntry) (h : History) → has_entry c seq (x ∷ h) ≡ cond (x.entry.client == c) ((x.entry.seq == seq) || has_entry c seq h) (has_entry c seq h)
-has_entry-cons c seq x h = by (x.entry.client == c)
-  where
-    by : (a : Bool) → list_any (λ q. q == seq) (map (λ z. z.entry.seq) (cond a (x ∷ filter (λ z. z.entry.client == c) h) (filter (λ z. z.entry.client == c) h))) ≡ cond a ((x.entry.seq == seq) || has_entry c seq h) (has_entry c seq h)
-    by true = refl
-    by false = refl
-
--- an item that has an entry has one to be found
-entry_found : (c seq : ℕ) (h : History) → has_entry c seq h ≡ true → IsSome (entry_of c seq h)
-entry_found c seq [] e = cc
-entry_found c seq (x ∷ h) e = by (x.entry.client == c) (x.entry.seq == seq) (entry_found c seq h) (sym (has_entry-cons c seq x h) ∙ e)
-  where
-    by : (a b : Bool) → (has_entry c seq h ≡ true → IsSome (entry_of c seq h)) → cond a (b || has_entry c seq h) (has_entry c seq h) ≡ true
-        → IsSome (slice_get (cond (a && b) (x ∷ filter (λ z. (z.entry.client == c) && (z.entry.seq == seq)) h) (filter (λ z. (z.entry.client == c) && (z.entry.seq == seq)) h)) 0)
-    by true true rest e = refl
-    by true false rest e = rest e
-    by false b rest e = rest e
-
--- one that has none has none to be found
-no_entry_found : (c seq : ℕ) (h : History) → has_entry c seq h ≡ false → entry_of c seq h ≡ None
-no_entry_found c seq [] e = refl
-no_entry_found c seq (x ∷ h) e = by (x.entry.client == c) (x.entry.seq == seq) (no_entry_found c seq h) (sym (has_entry-cons c seq x h) ∙ e)
-  where
-    by : (a b : Bool) → (has_entry c seq h ≡ false → entry_of c seq h ≡ None) → cond a (b || has_entry c seq h) (has_entry c seq h) ≡ false
-        → slice_get (cond (a && b) (x ∷ filter (λ z. (z.entry.client == c) && (z.entry.seq == seq)) h) (filter (λ z. (z.entry.client == c) && (z.entry.seq == seq)) h)) 0 ≡ None
-    by true true rest e = cc
-    by true false rest e = rest e
-    by false b rest e = rest e
+  ended c seq some = items_end plan s reached c seq some (all_past c seq (place_of_item plan c seq some).1)
 
 -- what is found in front of others, or behind them
 found_before : (test : Refusal → Bool) (a b : List Refusal) → IsSome (find test a) → IsSome (find test (a ++ b))
@@ -127,44 +103,25 @@ refused_found : (c seq : ℕ) (rs : List Refusal) → 1 ≤ refused_times c seq 
 refused_found c seq rs some = found_in (λ r. (r.client == c) && (r.seq == seq)) rs some
 
 module _ (plan : Plan) (s : State) (reached : IsReached plan s) (finished : IsFinished s) where
-  past : (c seq : ℕ) → seq ≤ length (items_of plan c) → nat_lt seq (client_at s c).seq ≡ true
-  past c seq within = less seq (client_at s c).seq (all_past plan s reached finished c seq within)
-    where
-      less : (a b : ℕ) → a < b → nat_lt a b ≡ true
-      less a b lt = grind (arith, nat_tests)
-
   -- each item's end is told
-  end_is_told : (c seq : ℕ) (item : PlainItem) → item_of plan c seq ≡ Some item → IsSome (end_told plan s c seq item)
-  end_is_told c seq item is = told item is
+  end_is_told : (c seq : ℕ) → IsSome (item_of plan c seq) → IsSome (end_told plan s c seq)
+  end_is_told c seq some = let end = ended plan s reached finished c seq some in told (item_end plan s c seq) end.ended (λ is. refused_found c seq s.refusals (omega (arith, end.tries is, reached.sound.limits.tries.0)))
     where
-      at : (1 ≤ seq) × (seq ≤ length (items_of plan c))
-      at = place_of_item plan c seq (subst IsSome (sym is) refl)
-
       refused : (o : Option Refusal) → IsSome o → IsSome (option_map given_up o)
       refused (Some r) h = refl
       refused None h = cc
 
-      script : (kind : Kind) → IsEnded plan s c seq → IsSome (script_told kind (entry_of c seq s.history) (last_refusal c seq s.refusals) (nat_lt seq (client_at s c).seq))
-      script kind (inl has) = by (entry_of c seq s.history) (entry_found c seq s.history has)
-        where
-          by : (o : Option HistoryEntry) → IsSome o → IsSome (script_told kind o (last_refusal c seq s.refusals) (nat_lt seq (client_at s c).seq))
-          by (Some e) h = refl
-          by None h = cc
-      script kind (inr none) =
-          subst (λ (o : Option HistoryEntry). IsSome (script_told kind o (last_refusal c seq s.refusals) (nat_lt seq (client_at s c).seq))) (sym (no_entry_found c seq s.history none.1))
-          (subst (λ (b : Bool). IsSome (if b then option_map given_up (last_refusal c seq s.refusals) else None)) (sym (past c seq at.1))
-          (refused (last_refusal c seq s.refusals) (refused_found c seq s.refusals (omega (arith, none.0, reached.sound.limits.tries.0)))))
-
-      told : (i : PlainItem) → item_of plan c seq ≡ Some i → IsSome (end_told plan s c seq i)
-      told (Run ops) e = script (kind_of plan.layout ops) (ended plan s reached finished c seq (subst IsSome (sym e) refl))
-      told Lose e = subst (λ (b : Bool). IsSome (if b then Some Lost else None)) (sym (past c seq at.1)) refl
+      told : (end : ItemEnd) → end ≢ Pending → (end ≡ Aborted → IsSome (last_refusal c seq s.refusals)) → IsSome (told_by (kind_of plan.layout (script_at plan c seq)) (reply_to c seq s.history) (last_refusal c seq s.refusals) end)
+      told Pending n r = absurd (n refl)
+      told (Committed stamp) n r = refl
+      told Aborted n r = refused (last_refusal c seq s.refusals) (r refl)
+      told Lost n r = refl
 
   -- the name on the line of each item
   line_of_item : (c seq : ℕ) → 1 ≤ seq → seq ≤ length (items_of plan c) → map name_of (item_told plan s c seq) ≡ (c, seq) ∷ []
   line_of_item c seq one within =
       let found = item_there plan c seq one within in
-      ap (λ (o : Option PlainItem). map name_of (with_end c seq (option_and_then (end_told plan s c seq) o))) found.1
-      ∙ named (end_told plan s c seq found.0) (end_is_told c seq found.0 found.1)
+      named (end_told plan s c seq) (end_is_told c seq (subst IsSome (sym found.1) refl))
     where
       named : (o : Option PlainEnd) → IsSome o → map name_of (with_end c seq o) ≡ (c, seq) ∷ []
       named (Some end) h = refl
@@ -230,8 +187,8 @@ entry_is_item's plan e cold at =
 pub run_is_serial : (plan : Plan) (s : State) → IsReached plan s → IsFinished s → IsSerial plan s
 run_is_serial plan s reached finished = record { history = legal_history plan s reached; values = serial_values plan s reached finished }
 
-pub run_is_once_each : (plan : Plan) (s : State) → has_cold_items plan ≡ true → IsReached plan s → IsFinished s → IsOnceEach plan s
-run_is_once_each plan s cold reached finished = record {
+pub run_is_once_each : (plan : Plan) (trace : List Actor) (s : State) → state_of plan trace ≡ Some s → has_cold_items plan ≡ true → IsReached plan s → IsFinished s → IsOnceEach plan trace s
+run_is_once_each plan trace s run cold reached finished = record {
   finished = finished;
   ended = ended plan s reached finished;
   lines =
@@ -239,6 +196,8 @@ run_is_once_each plan s cold reached finished = record {
       ∙ alike_from (λ c. map name_of (client_told plan s c)) (λ c. map (λ seq. (c, seq)) (range_with_len 1 (length (items_of plan c)))) 0 (length plan.clients) (λ c _ _. client_lines c);
   entries = each_entry s.history (λ e at. entry_is_item's plan e cold at) (are_placed plan s reached).entries;
   in_order = (items_in_order plan s reached).ascending;
+  rising = rising_stamps plan s reached;
+  stamps = stamps_above plan s (record { sound = reached.sound; cold = cold; trace = trace; run = run });
 }
   where
     client_lines : (c : ℕ) → map name_of (client_told plan s c) ≡ map (λ seq. (c, seq)) (range_with_len 1 (length (items_of plan c)))
@@ -250,13 +209,13 @@ run_is_once_each plan s cold reached finished = record {
 pub aborts_have_causes : (plan : Plan) (trace : List Actor) (s : State) → state_of plan trace ≡ Some s → IsReached plan s → IsFinished s → HaveCauses plan trace s
 aborts_have_causes plan trace s run reached finished = record {
   refusals = refusals_of_run plan trace s run;
-  tries = λ c seq aborted. refused_all c seq aborted (ended plan s reached finished c seq aborted.item);
-  hot = λ c seq ops is hot. absurd (clash (sym hot ∙ reached.cold c seq ops is));
+  tries = λ c seq ops is aborted. (ended plan s reached finished c seq (there (item_of plan c seq) ops is)).tries aborted;
+  hot = λ c seq ops is hot. absurd (clash (sym hot ∙ cold_from_items plan reached.cold c seq ops is));
 }
   where
-    refused_all : (c seq : ℕ) → IsAborted plan s c seq → IsEnded plan s c seq → refused_times c seq s.refusals ≡ plan.tries
-    refused_all c seq aborted (inl has) = let both = sym has ∙ aborted.none in cc
-    refused_all c seq aborted (inr all) = all.0
+    there : (o : Option PlainItem) (ops : List Op) → option_and_then script_in o ≡ Some ops → IsSome o
+    there (Some item) ops is = refl
+    there None ops is = cc
 
     clash : Hot ≡ Cold → ⊥
     clash e = cc

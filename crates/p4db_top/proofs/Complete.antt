@@ -2,8 +2,8 @@
 use Rattle.std.proofs.Common.{◌≡◌, ◌⊎◌, ℕ, ◌≤◌, ◌++◌, true, List, Option, Some, None, Ok, Err, length, length-append, append-nil, inl, inr, refl, sym, ap, subst, ◌∙◌, arith}
 use Rattle.catalogue.specs.Plan.{Plan}
 use Rattle.port_io.specs.ReadAll.{TakesAll, TakesBeyond}
-use Rattle.session_text.specs.SessionOf.{session_of}
-use Rattle.session_text.specs.declared.fault.SessionFault.{SessionFault}
+use Rattle.session_reader.specs.SessionOf.{session_of}
+use Rattle.session_reader.specs.declared.fault.SessionFault.{SessionFault}
 use Rattle.core_model.specs.Built.{has_cold_items}
 use Rattle.p4db_top.specs.declared.note.Note.{Note}
 use Rattle.p4db_top.specs.declared.note.Note.TheVariants.{Done, Usage, ReadFault, InputTooLong, WriteFault, Session, NotBuilt, NoMemory}

@@ -1,18 +1,19 @@
 -- The headline, and what each other answer of the top call is owed to.
-use Rattle.std.specs.Prelude.{◌≡◌, ◌⊎◌, ℕ, true, false, List, [], ◌∷◌, codes, Option, Some, Ok, Err}
+use Rattle.std.specs.Prelude.{◌≡◌, ◌≢◌, ◌⊎◌, ℕ, true, false, List, [], ◌∷◌, codes, Option, Some, Ok, Err}
 use Rattle.std.specs.Io.KnownBytes.{Appends}
 use Rattle.catalogue.specs.Plan.{Plan}
 use Rattle.catalogue.specs.declared.actor.Actor.{Actor}
 use Rattle.core_model.specs.Built.{has_cold_items}
 use Rattle.core_model.specs.Rota.{driven}
-use Rattle.core_model.specs.Run.{state_of, state_now}
+use Rattle.core_model.specs.Run.{state_of}
 use Rattle.core_model.specs.State.{State}
 use Rattle.port_io.specs.ReadAll.{TakesAll, TakesWithin, TakesBeyond}
 use Rattle.port_io.specs.WriteAll.{AppendsFront}
 use Rattle.report_text.specs.ReportText.{report}
 use Rattle.report_text.specs.RunReport.{run_report}
-use Rattle.session_text.specs.SessionOf.{session_of}
-use Rattle.session_text.specs.declared.fault.SessionFault.{SessionFault}
+use Rattle.session_reader.specs.SessionOf.{session_of}
+use Rattle.session_reader.specs.declared.fault.SessionFault.{SessionFault}
+use Rattle.session_reader.specs.declared.fault.SessionFault.TheVariants.{NoMemory as no_memory}
 use Rattle.p4db_top.specs.declared.note.Note.{Note}
 use Rattle.p4db_top.specs.declared.note.Note.TheVariants.{Done, Usage, ReadFault, InputTooLong, WriteFault, Session, NotBuilt, NoMemory}
 use Rattle.p4db_top.specs.Serial.{IsSerial, IsOnceEach, HaveCauses}
@@ -36,10 +37,6 @@ pub record Reads (left rest : Option (List ℕ)) (session : Plan) : Type 0 where
   pub read : IsRead left rest session
   pub built : has_cold_items session ≡ true
 
--- the whole output for a session: the report of the state that its driven trace makes
-abbrev pub output_of : Plan → List ℕ
-output_of session = report (run_report session (state_now session (driven session)) (driven session))
-
 -- What stands behind status 0.
 pub record Headline (left rest before after : Option (List ℕ)) : Type 0 where
   pub session : Plan
@@ -56,7 +53,7 @@ pub record Headline (left rest before after : Option (List ℕ)) : Type 0 where
   -- there is one serial order that gives all that was printed
   pub serial : IsSerial session state
   -- each item of the session ended, once, and each client's in its order
-  pub once_each : IsOnceEach session state
+  pub once_each : IsOnceEach session trace state
   -- no lock was refused, and no transaction aborted, without cause
   pub aborts_have_causes : HaveCauses session trace state
 
@@ -65,6 +62,8 @@ pub record Refuses (left rest : Option (List ℕ)) (fault : SessionFault) : Type
   pub bytes : List ℕ
   pub taken : TakesAll most_input left rest bytes
   pub is : session_of bytes ≡ Err fault
+  -- it is a fault of the text
+  pub told : fault ≢ no_memory
 
 -- a session was read, and it is one that isn't run yet
 pub record IsNotBuilt (left rest : Option (List ℕ)) : Type 0 where
@@ -72,11 +71,17 @@ pub record IsNotBuilt (left rest : Option (List ℕ)) : Type 0 where
   pub read : IsRead left rest session
   pub not_built : has_cold_items session ≡ false
 
--- a session was read, and a front of its output was written
+-- A session was read and run, and a front of its output was written: what stands behind status 4.
 pub record WritesFront (left rest before after : Option (List ℕ)) : Type 0 where
   pub session : Plan
+  pub trace : List Actor
+  pub state : State
+  -- the first three parts are those of the headline
   pub reads : Reads left rest session
-  pub printed : AppendsFront before after (output_of session)
+  pub driven : trace ≡ driven session
+  pub run : state_of session trace ≡ Some state
+  -- a front of the report of that was written
+  pub printed : AppendsFront before after (report (run_report session state trace))
 
 -- why no session was read, and what was taken of the source
 abbrev pub StopsReading : Note → (left rest : Option (List ℕ)) → Type 0

@@ -8,7 +8,8 @@ use Rattle.core_model.specs.Rota.{driven}
 use Rattle.core_model.specs.Run.{state_of, state_now}
 use Rattle.core_model.specs.State.{State}
 use Rattle.port_io.specs.WriteAll.{AppendsFront}
-use Rattle.p4db_top.specs.Headline.{output_of}
+use Rattle.report_text.specs.ReportText.{report}
+use Rattle.report_text.specs.RunReport.{run_report}
 use Rattle.p4db_top.specs.declared.note.Note.{Note}
 use Rattle.p4db_top.specs.declared.note.Note.TheVariants.{Done, Usage, ReadFault, InputTooLong, WriteFault, Session, NotBuilt, NoMemory}
 
@@ -22,9 +23,13 @@ pub record Finishes (session : Plan) : Type 0 where
   pub reached : IsReached session (last_state session)
   pub finished : IsFinished (last_state session)
 
+-- the whole output for a session: the report of the state that its driven trace makes
+abbrev pub output_of : Plan → List ℕ
+output_of session = report (run_report session (last_state session) (driven session))
+
 -- it is a session that is run, and a front of its output was written
 abbrev pub WritesSome : Plan → (before after : Option (List ℕ)) → Type 0
-WritesSome session before after = (has_cold_items session ≡ true) × AppendsFront before after (output_of session)
+WritesSome session before after = (has_cold_items session ≡ true) × Finishes session × AppendsFront before after (output_of session)
 
 abbrev pub Ran : Note → Plan → (before after : Option (List ℕ)) → Type 0
 Ran Done session before after = (has_cold_items session ≡ true) × Finishes session × Appends before after (output_of session)

@@ -1,5 +1,5 @@
 -- What is claimed of a finished run: one serial order, each item once, and true aborts.
-use Rattle.std.specs.Prelude.{◌≡◌, ℕ, true, false, List, map, length, Some, IsSome}
+use Rattle.std.specs.Prelude.{◌≡◌, ◌≢◌, ℕ, List, map, length, Some, IsSome}
 use Rattle.std.specs.List.{flat_map, range_with_len, AllByRecursion}
 use Rattle.txn_model.specs.declared.op.Op.{Op}
 use Rattle.catalogue.specs.Plan.{Plan, items_of, item_of, script_of, kind_of}
@@ -7,8 +7,10 @@ use Rattle.catalogue.specs.declared.actor.Actor.{Actor}
 use Rattle.catalogue.specs.declared.kind.Kind.TheVariants.{Hot}
 use Rattle.history_model.specs.InOrder.{seqs_of}
 use Rattle.core_model.specs.Asking.{IsTrue}
-use Rattle.core_model.specs.Ends.{has_entry, refused_times, IsEnded}
-use Rattle.core_model.specs.Laws.{HasLegalHistory, HasSerialValues, IsFinished, IsAscending}
+use Rattle.core_model.specs.Ends.{item_end, refused_times, IsEnded}
+use Rattle.core_model.specs.declared.item_end.ItemEnd.TheVariants.{Aborted}
+use Rattle.core_model.specs.Fixed.{HasStampsAbove}
+use Rattle.core_model.specs.Laws.{HasLegalHistory, HasSerialValues, HasRisingStamps, IsFinished, IsAscending}
 use Rattle.core_model.specs.Rota.{numbers_below}
 use Rattle.core_model.specs.State.{State}
 use Rattle.report_text.specs.Report.{EndedItem}
@@ -28,10 +30,10 @@ abbrev pub name_of : EndedItem → ℕ × ℕ
 name_of item = (item.client, item.seq)
 
 -- Each item of the session has ended, in one way, once.
-pub record IsOnceEach (session : Plan) (s : State) : Type 0 where
+pub record IsOnceEach (session : Plan) (trace : List Actor) (s : State) : Type 0 where
   -- no client has anything left to do
   pub finished : IsFinished s
-  -- each item is committed, and so has an entry, or aborted: all its tries were refused, and it has none
+  -- each item has an end, and if it was aborted, each of its tries was refused
   pub ended : (client seq : ℕ) → IsSome (item_of session client seq) → IsEnded session s client seq
   -- the report has one line for each item, in order
   pub lines : map name_of (items_told session s) ≡ item_names session
@@ -39,17 +41,16 @@ pub record IsOnceEach (session : Plan) (s : State) : Type 0 where
   pub entries : AllByRecursion (λ e. IsSome (script_of session e.entry.client e.entry.seq)) s.history
   -- each client's entries stand in its own order, each once
   pub in_order : (client : ℕ) → IsAscending (seqs_of client s.history)
-
--- the item has no entry
-pub record IsAborted (session : Plan) (s : State) (client seq : ℕ) : Type 0 where
-  pub item : IsSome (item_of session client seq)
-  pub none : has_entry client seq s.history ≡ false
+  -- of two entries of one client the one with the lower number has the lower stamp
+  pub rising : HasRisingStamps s
+  -- the stamp of each entry stood, when it was fixed, above all that its client had seen
+  pub stamps : HasStampsAbove session trace s
 
 -- Nothing was refused or aborted without cause.
 pub record HaveCauses (session : Plan) (trace : List Actor) (s : State) : Type 0 where
   -- each refusal of a lock is true: its client asked for it then, and the holder was the least other client in the way
   pub refusals : AllByRecursion (IsTrue session trace) s.refusals
-  -- an item is aborted when each of its tries was refused
-  pub tries : (client seq : ℕ) → IsAborted session s client seq → refused_times client seq s.refusals ≡ session.tries
+  -- a transaction is aborted when each of its tries was refused
+  pub tries : (client seq : ℕ) (ops : List Op) → script_of session client seq ≡ Some ops → item_end session s client seq ≡ Aborted → refused_times client seq s.refusals ≡ session.tries
   -- no transaction whose tuples are all in the switch is aborted
-  pub hot : (client seq : ℕ) (ops : List Op) → script_of session client seq ≡ Some ops → kind_of session.layout ops ≡ Hot → has_entry client seq s.history ≡ true
+  pub hot : (client seq : ℕ) (ops : List Op) → script_of session client seq ≡ Some ops → kind_of session.layout ops ≡ Hot → item_end session s client seq ≢ Aborted

@@ -2,11 +2,11 @@
 use Rattle.std.specs.Prelude.{ℕ, List, [], ◌++◌, codes, decimal}
 use Rattle.session_draft.specs.declared.read.Section.{Section}
 use Rattle.session_draft.specs.declared.read.Section.TheVariants as section
-use Rattle.session_text.specs.declared.fault.Limit.{Limit}
-use Rattle.session_text.specs.declared.fault.Limit.TheVariants as limit
-use Rattle.session_text.specs.declared.fault.OpAt.{OpAt}
-use Rattle.session_text.specs.declared.fault.SessionFault.{SessionFault}
-use Rattle.session_text.specs.declared.fault.SessionFault.TheVariants as fault
+use Rattle.session_reader.specs.declared.fault.Limit.{Limit}
+use Rattle.session_reader.specs.declared.fault.Limit.TheVariants as limit
+use Rattle.session_reader.specs.declared.fault.OpAt.{OpAt}
+use Rattle.session_reader.specs.declared.fault.SessionFault.{SessionFault}
+use Rattle.session_reader.specs.declared.fault.SessionFault.TheVariants as fault
 use Rattle.p4db_top.specs.declared.note.Note.{Note}
 use Rattle.p4db_top.specs.declared.note.Note.TheVariants.{Done, Usage, ReadFault, InputTooLong, WriteFault, Session, NotBuilt, NoMemory}
 
@@ -68,6 +68,6 @@ line_of Usage = codes "p4db: usage: p4db run, race, recover, hot, layout, gen or
 line_of ReadFault = codes "p4db: read failed\n"
 line_of InputTooLong = codes "p4db: input longer than 16777216 bytes\n"
 line_of WriteFault = codes "p4db: write failed\n"
-line_of (Session fault) = codes "p4db: session fault " ++ (fault_text fault ++ codes "\n")
+line_of (Session fault) = codes "p4db: session fault " ++ fault_text fault ++ codes "\n"
 line_of NoMemory = codes "p4db: out of memory\n"
 line_of NotBuilt = codes "p4db: not built yet\n"

@@ -9,7 +9,7 @@ mod note;
 mod top;
 
 pub use note::Note;
-pub use session_text::{Limit, OpAt, Section, SessionFault};
+pub use session_reader::{Limit, OpAt, Section, SessionFault};
 pub use top::{Ended, command};
 
 #[cfg(test)]

@@ -11,7 +11,7 @@ ghost use Rattle.p4db_top.specs.Ran.{Ran};
 
 use crate::note::Note;
 use catalogue::Session;
-use fabric_core::{BeginFault, End, RunName, World};
+use fabric_core::{BeginFault, End, RunName, World, has_cold_items};
 use port_io::{LogRack, Sink, SinkFault};
 use report_text::write_report;
 use std::alloc::Global;
@@ -25,17 +25,22 @@ pub(crate) fn run_named<L: LogRack, K: Sink, N: RunName>(
 ) -> (Note, L)
     requires sound { IsSound (plan_of session) }
     requires named { plan_of session ≡ N.session }
+    requires faults { L.faults rack ≡ N.faults }
+    requires kept { L.keeps rack ≡ N.kept }
     ensures ran { Ran result.0 (plan_of session) (K.content sink.old) (K.content sink.new) }
     ensures cause { HasCause (K.faults sink.old) (K.faults sink.new) (result.0 ≡ Note.WriteFault) }
     ensures rack { result.1 ≡ rack }
 {
+    if !has_cold_items(&session) {
+        return (Note::NotBuilt, rack);
+    }
+
     // The world takes the session, and its schedule with it.
     let Ok(actors) = session.schedule.copy(alloc) else {
         return (Note::NoMemory, rack);
     };
     let mut world = match World::<L, N>::begin(alloc, session, rack) {
         Ok(world) => world,
-        Err((rack, BeginFault::NotBuilt)) => return (Note::NotBuilt, rack),
         Err((rack, BeginFault::NoMemory)) => return (Note::NoMemory, rack),
     };
     let End::Finished = world.run(actors.as_slice());

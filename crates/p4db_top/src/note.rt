@@ -1,11 +1,11 @@
 //! How a call of the program ended.
 
-ghost use Rattle.std.specs.Prelude.{◌≡◌, ◌++◌, IfOk, OnOk, codes, string_bytes};
-ghost use Rattle.p4db_top.specs.Status.{fault_text, op_text, section_word, limit_word};
+ghost use Rattle.std.specs.Prelude.{◌≡◌, ◌++◌, Some};
+ghost use Rattle.std.specs.Fmt.{DisplaysOnOk};
+ghost use Rattle.p4db_top.specs.Status.{op_text, section_word, limit_word};
 
-use session_text::{Limit, OpAt, Section, SessionFault};
-use std::alloc::Global;
-use txn_model::NoMemory;
+use session_reader::{Limit, OpAt, Section, SessionFault};
+use std::fmt;
 
 /// What the program has to say of a call, on one line of standard error unless all went well.
 #[derive(Clone, Copy, Debug, PartialEq, Eq)]
@@ -29,7 +29,7 @@ pub enum Note {
 }
 
 impl Note {
-    ghost use Rattle.p4db_top.specs.Status.{status_of, line_of};
+    ghost use Rattle.p4db_top.specs.Status.{status_of};
 
     /// The exit status: 0, 2 to 5, 9 or 10.
     pub fn status(self) -> u8
@@ -45,71 +45,73 @@ impl Note {
             Note::NotBuilt => 10,
         }
     }
+}
 
-    /// The line on standard error; empty where all went well.
-    pub fn line(self, alloc: Global) -> Result<String, NoMemory>
-        ensures { IfOk result (λ line. string_bytes line ≡ line_of self) }
-    {
-        let mut line = String::new(alloc);
-        match self {
-            Note::Done => {}
+/// The line on standard error, with the newline that ends it; nothing where all went well.
+impl fmt::Display for Note {
+    ghost use Rattle.std.specs.Prelude.{Some};
+    ghost use Rattle.p4db_top.specs.Status.{line_of};
+
+    ghost output = { λ note. Some (line_of note) };
+
+    fn fmt<W: fmt::Write>(&self, f: &mut fmt::Formatter<W>) -> fmt::Result {
+        match *self {
+            Note::Done => Ok(()),
             Note::Usage => {
-                line.push_str("p4db: usage: p4db run, race, recover, hot, layout, gen or drive\n")?;
+                f.write_str("p4db: usage: p4db run, race, recover, hot, layout, gen or drive\n")
             }
-            Note::ReadFault => line.push_str("p4db: read failed\n")?,
-            Note::InputTooLong => line.push_str("p4db: input longer than 16777216 bytes\n")?,
-            Note::WriteFault => line.push_str("p4db: write failed\n")?,
-            Note::Session(fault) => push_session_fault(&mut line, fault)?,
-            Note::NotBuilt => line.push_str("p4db: not built yet\n")?,
-            Note::NoMemory => line.push_str("p4db: out of memory\n")?,
+            Note::ReadFault => f.write_str("p4db: read failed\n"),
+            Note::InputTooLong => f.write_str("p4db: input longer than 16777216 bytes\n"),
+            Note::WriteFault => f.write_str("p4db: write failed\n"),
+            Note::Session(fault) => {
+                let text = FaultText(fault);
+                write!(f, "p4db: session fault {text}\n")
+            }
+            Note::NotBuilt => f.write_str("p4db: not built yet\n"),
+            Note::NoMemory => f.write_str("p4db: out of memory\n"),
         }
-        Ok(line)
     }
 }
 
-fn push_session_fault(line: &mut String, fault: SessionFault) -> Result<(), NoMemory>
-    ensures { OnOk result (string_bytes line.new
-        ≡ string_bytes line.old ++ (codes "p4db: session fault " ++ (fault_text fault ++ codes "\n"))) }
-{
-    line.push_str("p4db: session fault ")?;
-    push_fault(line, fault)?;
-    line.push_str("\n")?;
-    Ok(())
-}
+/// A fault's number, name and place.
+#[derive(Clone, Copy)]
+struct FaultText(SessionFault);
 
-/// Appends the fault's number, name and place.
-fn push_fault(line: &mut String, fault: SessionFault) -> Result<(), NoMemory>
-    ensures { OnOk result (string_bytes line.new ≡ string_bytes line.old ++ fault_text fault) }
-{
-    match fault {
-        SessionFault::NotJson => line.push_str("1 NotJson")?,
-        SessionFault::BadShape(section) => {
-            let word = section_word(section);
-            write!(line, "2 BadShape {word}")?;
+impl fmt::Display for FaultText {
+    ghost use Rattle.std.specs.Prelude.{Some};
+    ghost use Rattle.p4db_top.specs.Status.{fault_text};
+
+    ghost output = { λ text. Some (fault_text text.0) };
+
+    fn fmt<W: fmt::Write>(&self, f: &mut fmt::Formatter<W>) -> fmt::Result {
+        match self.0 {
+            SessionFault::NotJson => f.write_str("1 NotJson"),
+            SessionFault::BadShape(section) => {
+                let word = section_word(section);
+                write!(f, "2 BadShape {word}")
+            }
+            SessionFault::OverLimit(limit) => {
+                let word = limit_word(limit);
+                write!(f, "3 OverLimit {word}")
+            }
+            SessionFault::BadTuple(at) => write_at(f, "4 BadTuple ", at),
+            SessionFault::BadPlace(row) => write!(f, "5 BadPlace row {row}"),
+            SessionFault::PlaceTwice(row) => write!(f, "6 PlaceTwice row {row}"),
+            SessionFault::TupleTwice(at) => write_at(f, "7 TupleTwice ", at),
+            SessionFault::BadUse(at) => write_at(f, "8 BadUse ", at),
+            SessionFault::BadTurn(at) => write_at(f, "9 BadTurn ", at),
+            SessionFault::BadActor(word) => write!(f, "10 BadActor word {word}"),
+            SessionFault::NoMemory => f.write_str("out of memory"),
         }
-        SessionFault::OverLimit(limit) => {
-            let word = limit_word(limit);
-            write!(line, "3 OverLimit {word}")?;
-        }
-        SessionFault::BadTuple(at) => push_at(line, "4 BadTuple ", at)?,
-        SessionFault::BadPlace(row) => write!(line, "5 BadPlace row {row}")?,
-        SessionFault::PlaceTwice(row) => write!(line, "6 PlaceTwice row {row}")?,
-        SessionFault::TupleTwice(at) => push_at(line, "7 TupleTwice ", at)?,
-        SessionFault::BadUse(at) => push_at(line, "8 BadUse ", at)?,
-        SessionFault::BadTurn(at) => push_at(line, "9 BadTurn ", at)?,
-        SessionFault::BadActor(word) => write!(line, "10 BadActor word {word}")?,
-        SessionFault::NoMemory => line.push_str("out of memory")?,
     }
-    Ok(())
 }
 
-/// Appends a name and the place of an operation.
-fn push_at(line: &mut String, name: &str, at: OpAt) -> Result<(), NoMemory>
-    ensures { OnOk result (string_bytes line.new ≡ string_bytes line.old ++ (name.now ++ op_text at)) }
+/// Writes a name and the place of an operation.
+fn write_at<W: fmt::Write>(f: &mut fmt::Formatter<W>, name: &str, at: OpAt) -> fmt::Result
+    ensures { DisplaysOnOk W.write_str_gives f.old result (Some (name.now ++ op_text at)) f.new }
 {
     let OpAt { client, seq, op } = at;
-    write!(line, "{name}c{client} {seq} op{op}")?;
-    Ok(())
+    write!(f, "{name}c{client} {seq} op{op}")
 }
 
 /// A section's word in messages.

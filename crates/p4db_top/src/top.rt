@@ -5,7 +5,7 @@ ghost use Rattle.port_io.specs.Cause.{Rose, HasCause};
 ghost use Rattle.catalogue.specs.Plan.{Plan};
 ghost use Rattle.catalogue.specs.PlanOf.{plan_of};
 ghost use Rattle.catalogue.specs.Sound.{IsSound};
-ghost use Rattle.session_text.specs.SessionOf.{session_of};
+ghost use Rattle.session_reader.specs.SessionOf.{session_of};
 ghost use Rattle.core_model.specs.Built.{has_cold_items};
 ghost use Rattle.p4db_top.specs.Headline.{most_input, IsRun, IsRead, Headline, StopsReading, Explains};
 ghost use Rattle.p4db_top.specs.Status.{status_of};
@@ -14,7 +14,7 @@ use crate::named::run_named;
 use crate::note::Note;
 use catalogue::Session;
 use port_io::{LogRack, ReadAllFault, Sink, Source, Word, read_all};
-use session_text::{SessionFault, read_session};
+use session_reader::{SessionFault, read_session};
 use std::alloc::Global;
 use std::marker::Brand;
 
@@ -44,6 +44,7 @@ fn session_of<S: Source>(alloc: Global, source: &mut S) -> Result<Session, Note>
     ensures ok { IfOk result (λ s. IsRead (S.left source.old) (S.left source.new) (plan_of s)) }
     ensures sound { IfOk result (λ s. IsSound (plan_of s)) }
     ensures err { IfErr result (λ note. StopsReading note (S.left source.old) (S.left source.new)) }
+    ensures told { result ≢ Err (Note.Session SessionFault.NoMemory) }
     ensures cause { HasCause (S.faults source.old) (S.faults source.new) (result ≡ Err Note.ReadFault) }
 {
     let bytes = match read_all(alloc, source, MOST_INPUT) {
@@ -67,6 +68,7 @@ fn run<S: Source, K: Sink, L: LogRack>(
     rack: L,
 ) -> (Note, L)
     ensures explained { Explains result.0 (S.left source.old) (S.left source.new) (K.content sink.old) (K.content sink.new) }
+    ensures told { result.0 ≢ Note.Session SessionFault.NoMemory }
     ensures read_cause { HasCause (S.faults source.old) (S.faults source.new) (result.0 ≡ Note.ReadFault) }
     ensures write_cause { HasCause (K.faults sink.old) (K.faults sink.new) (result.0 ≡ Note.WriteFault) }
     ensures rack { result.1 ≡ rack }
@@ -101,7 +103,10 @@ pub fn command<S: Source, K: Sink, L: LogRack + Send>(
     ensures explained { IsRun words.now
         → Explains result.note (S.left source.old) (S.left source.new) (K.content sink.old) (K.content sink.new) }
 
-    // Each failure has its cause.
+    // Want of memory is a note of its own.
+    ensures told { result.note ≢ Note.Session SessionFault.NoMemory }
+
+    // Each failure has its cause, and a count that rose is told as a failure.
     ensures read_cause { HasCause (S.faults source.old) (S.faults source.new) (result.note ≡ Note.ReadFault) }
     ensures write_cause { HasCause (K.faults sink.old) (K.faults sink.new) (result.note ≡ Note.WriteFault) }
 

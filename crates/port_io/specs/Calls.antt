@@ -21,6 +21,10 @@ next_number calls = count_on calls.made
 abbrev pub next_fails : CallCount → Bool
 next_fails calls = list_any (λ number. number == next_number calls) calls.fails
 
+-- after the next call, where that did not fail
+abbrev pub after_success : CallCount → CallCount
+after_success calls = record { fails = calls.fails; made = next_number calls; failed = calls.failed }
+
 -- after the next call
 abbrev pub after_next : CallCount → CallCount
 after_next calls = record {

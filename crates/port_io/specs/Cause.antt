@@ -1,5 +1,5 @@
 -- When a call may answer that it failed: only where the count of failures rose.
-use Rattle.std.specs.Prelude.{ℕ, ◌+◌, ◌-◌, ◌^◌, ◌≤◌, min}
+use Rattle.std.specs.Prelude.{◌≡◌, ℕ, ◌+◌, ◌-◌, ◌^◌, ◌≤◌, min}
 
 -- a count and one more; one that has reached the most that a `u64` holds stays there
 abbrev pub count_on : ℕ → ℕ
@@ -9,7 +9,9 @@ count_on count = min (count + 1) (2 ^ 64 - 1)
 abbrev pub Rose : ℕ → ℕ → Type 0
 Rose before now = count_on before ≤ now
 
--- the count did not fall, and where the call failed it rose
+-- The count did not fall: it rose where the call failed, and stands still where it did not. So no other answer comes with a
+-- failure that was counted.
 pub record HasCause (before now : ℕ) (HasFailed : Type 0) : Type 0 where
   pub later : before ≤ now
   pub rose : HasFailed → Rose before now
+  pub still : (HasFailed → ⊥) → now ≡ before

@@ -1,7 +1,7 @@
 //! The calls of an object in memory, some of which are to fail.
-ghost use Rattle.std.specs.Prelude.{◌≡◌, ◌==◌, ◌<◌, ◌^◌, IsTrue};
+ghost use Rattle.std.specs.Prelude.{◌≡◌, ◌==◌, ◌+◌, ◌<◌, ◌^◌, IsTrue};
 ghost use Rattle.std.specs.List.{list_any};
-ghost use Rattle.port_io.specs.Calls.{no_calls, next_number, next_fails, after_next};
+ghost use Rattle.port_io.specs.Calls.{no_calls, next_number, next_fails, after_success, after_next};
 
 use std::marker::Model;
 
@@ -36,15 +36,34 @@ impl Calls {
     }
 
     /// Counts one more call, and tells whether it is to fail.
+    pub(crate) fn begin(&mut self) -> bool
+        ensures fails { result ≡ next_fails self.old }
+        ensures after { self.new ≡ after_success self.old }
+        ensures not_late { IsTrue result → next_number self.old < 2 ^ 32 }
+        ensures room { IsTrue result → self.new.failed < self.new.made }
+    {
+        self.made = self.made.saturating_add(1);
+        is_listed(&self.fails, self.made)
+    }
+
+    /// Counts one more failure.
+    pub(crate) fn fail(&mut self)
+        requires room { self.old.failed < self.old.made }
+        requires early { self.old.made < 2 ^ 32 }
+        ensures { self.new ≡ record self.old { failed = self.old.failed + 1 } }
+    {
+        self.failed += 1;
+    }
+
+    /// Counts one more call, and its failure where it is to fail, which it tells.
     pub(crate) fn next_fails(&mut self) -> bool
         ensures fails { result ≡ next_fails self.old }
         ensures after { self.new ≡ after_next self.old }
         ensures not_late { IsTrue result → next_number self.old < 2 ^ 32 }
     {
-        self.made = self.made.saturating_add(1);
-        let fails = is_listed(&self.fails, self.made);
+        let fails = self.begin();
         if fails {
-            self.failed += 1;
+            self.fail();
         }
         fails
     }

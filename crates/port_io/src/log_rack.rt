@@ -57,7 +57,8 @@ pub trait LogRack {
         ensures cause { HasCause (faults self.old) (faults self.new) (IsErr result) };
 
     /// Appends a piece to a client's log. After `Failed`, which comes only where the count of
-    /// failures rose, a rack that keeps has a front of it. `NoMemory` changes nothing.
+    /// failures rose, a rack that keeps has a front of it. `NoMemory` changes nothing, neither what
+    /// is told nor that count.
     fn append(&mut self, alloc: Global, client: u8, piece: &[u8]) -> Result<(), RackFault>
         requires { client < 8 }
 

@@ -1,8 +1,9 @@
 //! The process's own standard input and standard output.
-ghost use Rattle.std.specs.Prelude.{◌≡◌, ◌<◌, ◌≤◌, length, take, None, is_ok, IfSome, IfOk, IsErr, IsErrOf, if◌then◌else◌};
+ghost use Rattle.std.specs.Prelude.{◌≡◌, ◌<◌, ◌≤◌, length, take, None, is_ok, IsNone, IfSome, IfOk, OnErr, IsErr, IsErrOf, if◌then◌else◌};
 ghost use Rattle.std.specs.Io.{ReadsAtMost, WritesAtMost};
 ghost use Rattle.std.specs.Io.KnownBytes.{Appends, ReadConsumes, WriteAppends};
 ghost use Rattle.port_io.specs.Cause.{HasCause, count_on};
+ghost use Rattle.port_io.specs.WriteAll.{AppendsFront};
 
 use crate::{Failed, Sink, SinkFault, Source};
 use std::alloc::Global;
@@ -62,8 +63,8 @@ impl<R: Read> Source for StdSource<R> {
 }
 
 /// Standard output, flushed after each piece. It tells nothing, but what it takes goes to its
-/// writer. After a flush that failed, some of the piece may have gone there too. Its count of
-/// failures stays at `u64::MAX` once it is there.
+/// writer. After a failure a front of the piece may have gone there too. Its count of failures
+/// stays at `u64::MAX` once it is there.
 #[derive(Drop)]
 pub struct StdSink<W: Write> {
     writer: W,
@@ -101,8 +102,9 @@ impl<W: Write> Sink for StdSink<W> {
         ensures bytes { WriteAppends None None result piece.now }
         ensures cause { HasCause self.old.failed self.new.failed (IsErrOf result SinkFault.Failed) }
 
-        // What is taken went to the writer, and each failure counts once.
+        // What is taken went to the writer, and of a piece that failed a front at most. Each failure counts once.
         ensures passed { IfOk result (λ n. Appends (W.contents self.old.stream) (W.contents self.new.stream) (take n piece.now)) }
+        ensures front { OnErr result (AppendsFront (W.contents self.old.stream) (W.contents self.new.stream) piece.now) }
         ensures count { self.new.failed ≡ (if is_ok result then self.old.failed else count_on self.old.failed) }
     {
         match write_through(&mut self.writer, piece) {
@@ -120,6 +122,7 @@ fn write_through<W: Write>(writer: &mut W, piece: &[u8]) -> Option<usize>
     ensures bound { IfSome result (λ n. n ≤ length piece.now) }
     ensures progress { IfSome result (λ n. 0 < length piece.now → 0 < n) }
     ensures passed { IfSome result (λ n. Appends (W.contents writer.old) (W.contents writer.new) (take n piece.now)) }
+    ensures front { IsNone result → AppendsFront (W.contents writer.old) (W.contents writer.new) piece.now }
 {
     let count = writer.write(piece).ok()?;
     writer.flush().ok()?;
@@ -136,10 +139,11 @@ mod tests {
     use std::io::ErrorKind;
     use std::test::Fail;
 
-    // Fails at every other call, and else fills the buffer with the letter a.
+    // Fails at every other call, and else gives the letter a until none is left.
     #[derive(Drop)]
     struct Flickering {
         is_on: bool,
+        left: usize,
     }
 
     impl Read for Flickering {
@@ -148,8 +152,10 @@ mod tests {
             if self.is_on {
                 return Err(io::Error::from(ErrorKind::Other));
             }
-            buf.fill(b'a');
-            Ok(buf.len())
+            let count = buf.len().min(self.left);
+            buf[..count].fill(b'a');
+            self.left -= count;
+            Ok(count)
         }
     }
 
@@ -175,15 +181,19 @@ mod tests {
     }
 
     #[test]
-    fn each_failure_of_a_reader_counts(rt: HostRuntime) {
-        let reader = Flickering { is_on: false };
+    fn each_failure_of_a_reader_counts_and_its_end_does_not(rt: HostRuntime) {
+        let reader = Flickering {
+            is_on: false,
+            left: 2,
+        };
         let mut source = StdSource { reader, failed: 0 };
         let mut buf = [0; 2];
-        assert_eq!(rt; source.read(&mut buf), Err(Failed));
-        assert_eq!(rt; source.read(&mut buf), Ok(2));
-        assert_eq!(rt; source.read(&mut buf), Err(Failed));
+        let cases = [(Err(Failed), 1), (Ok(2), 1), (Err(Failed), 2), (Ok(0), 2)];
+        for (want, count) in cases {
+            assert_eq!(rt; source.read(&mut buf), want);
+            assert_eq!(rt; source.failed, count);
+        }
         assert_eq!(rt; buf, *b"aa");
-        assert_eq!(rt; source.failed, 2);
     }
 
     #[test]

@@ -2,6 +2,7 @@
 
 use super::*;
 use std::convert::AsStr;
+use std::fs;
 use std::test::Fail;
 
 #[test]
@@ -93,6 +94,80 @@ fn a_clean_rack_keeps_each_log(rt: HostRuntime) -> Result<(), Fail> {
     assert_eq!(rt; rack.bytes(0), b"".as_slice());
     assert_eq!(rt; rack.bytes(7), b"xy".as_slice());
     assert_eq!(rt; rack.read(7, u64::MAX, &mut buf), Ok(0));
+    Ok(())
+}
+
+#[test]
+fn a_rack_fails_by_number_and_keeps_a_half(rt: HostRuntime) -> Result<(), Fail> {
+    let alloc = rt.alloc();
+    let mut rack = goes_to_a_thread(MemRack::of(alloc, [2, 4, 5].to_vec(alloc)?));
+    let mut buf = [0; 8];
+    assert_eq!(rt; rack.append(alloc, 1, b"ab"), Ok(()));
+    assert_eq!(rt; rack.append(alloc, 1, b"cdefg"), Err(RackFault::Failed));
+    assert_eq!(rt; rack.append(alloc, 6, b"xy"), Ok(()));
+    assert_eq!(rt; rack.read(1, 0, &mut buf), Err(Failed));
+    assert_eq!(rt; rack.reset(1), Err(Failed));
+    assert_eq!(rt; rack.bytes(1), b"abcd".as_slice());
+    assert_eq!(rt; rack.read(1, 1, &mut buf), Ok(3));
+    assert_eq!(rt; rack.reset(1), Ok(()));
+    assert_eq!(rt; rack.bytes(1), b"".as_slice());
+    assert_eq!(rt; rack.bytes(6), b"xy".as_slice());
+    Ok(())
+}
+
+#[test]
+fn a_damaged_rack_shows_one_wrong_byte(rt: HostRuntime) -> Result<(), Fail> {
+    let alloc = rt.alloc();
+    let cases = [
+        (2, 0, 0, b"!bcd".as_slice()),
+        (2, 3, 0, b"abc!".as_slice()),
+        (2, 3, 2, b"c!".as_slice()),
+        (2, 1, 2, b"cd".as_slice()),
+        (2, 4, 0, b"abcd".as_slice()),
+        (2, u64::MAX, 1, b"bcd".as_slice()),
+        (3, 0, 0, b"abcd".as_slice()),
+    ];
+    for (client, place, at, want) in cases {
+        let mut rack = goes_to_a_thread(DamagedRack::of(alloc, client, place, b'!'));
+        let mut buf = [0; 9];
+        assert_eq!(rt; rack.append(alloc, 2, b"abcd"), Ok(()));
+        assert_eq!(rt; rack.read(2, at, &mut buf), Ok(want.len()));
+        assert!(rt; buf.starts_with(want));
+        assert_eq!(rt; rack.bytes(2), b"abcd".as_slice());
+        assert_eq!(rt; rack.reset(2), Ok(()));
+        assert_eq!(rt; rack.read(2, 0, &mut buf), Ok(0));
+    }
+    Ok(())
+}
+
+#[test]
+fn a_rack_in_files_reads_the_files(rt: HostRuntime) -> Result<(), Fail> {
+    const FOLDER: &str = "rack-in-files";
+    let alloc = rt.alloc();
+    let mut rack = goes_to_a_thread(FileRack::at(&rt, FOLDER));
+    let mut buf = [0; 8];
+    assert_eq!(rt; rack.read(3, 0, &mut buf), Ok(0));
+    assert_eq!(rt; rack.append(alloc, 3, b"no folder"), Err(RackFault::Failed));
+    assert_eq!(rt; rack.reset(3), Ok(()));
+    assert_eq!(rt; rack.append(alloc, 3, b"abc"), Ok(()));
+    assert_eq!(rt; rack.append(alloc, 3, b"de"), Ok(()));
+    assert_eq!(rt; rack.read(3, 1, &mut buf), Ok(4));
+    assert!(rt; buf.starts_with(b"bcde"));
+
+    // What another writes there is read, and appends go on behind it.
+    fs::write(&rt, "rack-in-files/client3.log", b"other".as_slice())?;
+    assert_eq!(rt; rack.append(alloc, 3, b"!"), Ok(()));
+    assert_eq!(rt; rack.read(3, 0, &mut buf), Ok(6));
+    assert!(rt; buf.starts_with(b"other!"));
+    for at in [6, 7, u64::MAX] {
+        assert_eq!(rt; rack.read(3, at, &mut buf), Ok(0));
+    }
+    assert_eq!(rt; rack.reset(3), Ok(()));
+    assert_eq!(rt; rack.read(3, 0, &mut buf), Ok(0));
+    fs::remove_dir_all(&rt, FOLDER)?;
+
+    let mut not_a_folder = FileRack::at(&rt, "/dev/null");
+    assert_eq!(rt; not_a_folder.reset(0), Err(Failed));
     Ok(())
 }
 

@@ -1,58 +1,56 @@
 -- What a report tells of items.
-use Rattle.std.proofs.Common.{◌≡◌, ℕ, suc, ◌+◌, nat_lt, Bool, true, false, if◌then◌else◌, List, [], ◌∷◌, ◌++◌, filter, map, zero, take, slice_get, unwrap_or, Option, Some, None, append_assoc, append-nil, length-append, arith, refl, sym, ap, ◌∙◌}
+use Rattle.std.proofs.Common.{◌≡◌, ℕ, suc, ◌+◌, nat_lt, Bool, true, false, if◌then◌else◌, List, [], ◌∷◌, ◌++◌, find, is_some, map, zero, take, slice_get, unwrap_or, Option, Some, None, append_assoc, append-nil, length-append, arith, refl, sym, ap, ◌∙◌}
 use Rattle.std.specs.List.{flat_map, range_with_len}
 use Rattle.std.specs.Option.{option_map, option_and_then}
 use Rattle.std.proofs.lemmas.Grind.{flat_map-append}
 use Rattle.txn_model.specs.declared.op.Op.{Op}
 use Rattle.txn_model.specs.declared.pairs.Pair.{Pair}
-use Rattle.catalogue.specs.Plan.{Plan, PlainItem, Run, Lose, item_of, kind_of}
+use Rattle.catalogue.specs.Plan.{Plan, PlainItem, Run, Lose, item_of, kind_of, script_in, script_at}
 use Rattle.catalogue.specs.declared.kind.Kind.{Kind}
 use Rattle.history_model.specs.History.{HistoryEntry, History}
 use Rattle.history_core.specs.Answers.{is_of_item, reply_of}
 use Rattle.core_model.specs.declared.refusal.Refusal.{Refusal}
 use Rattle.core_model.specs.State.{State, client_at}
-use Rattle.fabric_core.specs.ItemEnds.{entry_of, script_end, end_of, item_end}
-use Rattle.fabric_core.specs.declared.ends.ItemEnd.{ItemEnd}
-use Rattle.fabric_core.specs.declared.ends.ItemEnd.TheVariants as ends
+use Rattle.core_model.specs.Ends.{where_answered, answered_entry, script_end, end_of, item_end}
+use Rattle.core_model.specs.declared.item_end.ItemEnd.{ItemEnd}
+use Rattle.core_model.specs.declared.item_end.ItemEnd.TheVariants as ends
 use Rattle.report_text.specs.Lines.{item_line, entry_line}
 use Rattle.report_text.specs.Report.{PlainEnd, Committed, Lost, EndedItem}
-use Rattle.report_text.specs.RunReport.{last_refusal, given_up, script_told, is_past, end_told, with_end, item_told}
+use Rattle.report_text.specs.RunReport.{last_refusal, told_by, reply_to, with_end, item_told}
 use Rattle.report_text.specs.Told.{Tells}
 
--- an item's reply is that of its entry
-reply-entry_of : (client seq : ℕ) (h : History) → reply_of client seq h ≡ option_and_then (λ e. e.pairs) (entry_of client seq h)
-reply-entry_of client seq [] = refl
-reply-entry_of client seq (e ∷ h) =
-    elim (is_of_item client seq e) as (λ b. (if b then e.pairs else reply_of client seq h) ≡ option_and_then (λ e. e.pairs) (slice_get (if b then e ∷ filter (is_of_item client seq) h else filter (is_of_item client seq) h) 0)) [
-      | true ↦ refl
-      | false ↦ reply-entry_of client seq h
+-- an item's reply is that of its entry, where it is answered
+reply_is : (client seq : ℕ) (h : History) → reply_of client seq h ≡ reply_to client seq h
+reply_is client seq [] = refl
+reply_is client seq (e ∷ h) =
+    elim (is_of_item client seq e) as (λ b. (if b then e.pairs else reply_of client seq h) ≡ option_and_then (λ e. e.pairs) (option_and_then where_answered (if b then Some e else find (is_of_item client seq) h))) [
+      | true ↦ own e.pairs refl
+      | false ↦ reply_is client seq h
     ]
-
--- the end that a transaction's line tells, by what a world answers
-abbrev pub told_by : Kind → Option (List Pair) → Option Refusal → ItemEnd → Option PlainEnd
-told_by kind reply refusal (ends.Committed stamp) = Some (Committed kind stamp (unwrap_or reply []))
-told_by kind reply refusal ends.Aborted = option_map given_up refusal
-told_by kind reply refusal ends.Pending = None
-told_by kind reply refusal ends.Lost = None
-
-script_told_by : (kind : Kind) (o : Option HistoryEntry) (refusal : Option Refusal) (seq present : ℕ)
-    → script_told kind o refusal (nat_lt seq present) ≡ told_by kind (option_and_then (λ e. e.pairs) o) refusal (script_end o seq present)
-script_told_by kind (Some e) refusal seq present = refl
-script_told_by kind None refusal seq present = elim (nat_lt seq present) as (λ b. (if b then option_map given_up refusal else None) ≡ told_by kind None refusal (if b then ends.Aborted else ends.Pending)) [ true ↦ refl | false ↦ refl ]
+  where
+    own : (o : Option (List Pair)) → e.pairs ≡ o → o ≡ option_and_then (λ x. x.pairs) (if is_some o then Some e else None)
+    own None is = refl
+    own (Some pairs) is = sym is
 
 pub script_item_told : (plan : Plan) (s : State) (client seq : ℕ) (ops : List Op) (end : ItemEnd) → item_of plan client seq ≡ Some (Run ops) → end ≡ item_end plan s client seq
     → item_told plan s client seq ≡ with_end client seq (told_by (kind_of plan.layout ops) (reply_of client seq s.history) (last_refusal client seq s.refusals) end)
 script_item_told plan s client seq ops end is ended =
-    ap (λ (o : Option PlainItem). with_end client seq (option_and_then (end_told plan s client seq) o)) is
-    ∙ ap (with_end client seq) (script_told_by kind (entry_of client seq s.history) refusal seq (client_at s client).seq)
-    ∙ ap (λ (o : Option (List Pair)). with_end client seq (told_by kind o refusal (script_end (entry_of client seq s.history) seq (client_at s client).seq))) (sym (reply-entry_of client seq s.history))
-    ∙ ap (λ (e : ItemEnd). with_end client seq (told_by kind (reply_of client seq s.history) refusal e)) (sym (ended ∙ ap (end_of s client seq) is))
-  where
-    kind : Kind
-    kind = kind_of plan.layout ops
+    let refusal = last_refusal client seq s.refusals in
+    ap (λ (o : Option PlainItem). with_end client seq (told_by (kind_of plan.layout (unwrap_or (option_and_then script_in o) [])) (reply_to client seq s.history) refusal (item_end plan s client seq))) is
+    ∙ ap (λ (o : Option (List Pair)). with_end client seq (told_by (kind_of plan.layout ops) o refusal (item_end plan s client seq))) (sym (reply_is client seq s.history))
+    ∙ ap (λ (e : ItemEnd). with_end client seq (told_by (kind_of plan.layout ops) (reply_of client seq s.history) refusal e)) (sym ended)
 
-    refusal : Option Refusal
-    refusal = last_refusal client seq s.refusals
+-- the end of a transaction isn't that of a loss
+pub not_lost : (plan : Plan) (s : State) (client seq : ℕ) (ops : List Op) → item_of plan client seq ≡ Some (Run ops) → item_end plan s client seq ≡ ends.Lost → ⊥
+not_lost plan s client seq ops is lost = by (answered_entry client seq s.history) (sym (ap (end_of s client seq) is) ∙ lost)
+  where
+    late : (b : Bool) → (if b then ends.Aborted else ends.Pending) ≡ ends.Lost → ⊥
+    late true e = cc
+    late false e = cc
+
+    by : (o : Option HistoryEntry) → script_end o seq (client_at s client).seq ≡ ends.Lost → ⊥
+    by (Some e) lost = cc
+    by None lost = late (nat_lt seq (client_at s client).seq) lost
 
 -- the same of a loss of the switch
 abbrev pub loss_told_by : ItemEnd → Option PlainEnd
@@ -64,17 +62,18 @@ loss_told_by (ends.Committed stamp) = None
 pub loss_item_told : (plan : Plan) (s : State) (client seq : ℕ) (end : ItemEnd) → item_of plan client seq ≡ Some Lose → end ≡ item_end plan s client seq
     → item_told plan s client seq ≡ with_end client seq (loss_told_by end)
 loss_item_told plan s client seq end is ended =
-    ap (λ (o : Option PlainItem). with_end client seq (option_and_then (end_told plan s client seq) o)) is
-    ∙ by (is_past s client seq)
-    ∙ ap (λ (e : ItemEnd). with_end client seq (loss_told_by e)) (sym (ended ∙ ap (end_of s client seq) is))
+    let whole = ap (end_of s client seq) is in
+    ap (λ (e : ItemEnd). with_end client seq (told_by (kind_of plan.layout (script_at plan client seq)) (reply_to client seq s.history) (last_refusal client seq s.refusals) e)) whole
+    ∙ by (nat_lt seq (client_at s client).seq)
+    ∙ ap (λ (e : ItemEnd). with_end client seq (loss_told_by e)) (sym (ended ∙ whole))
   where
-    by : (b : Bool) → with_end client seq (if b then Some Lost else None) ≡ with_end client seq (loss_told_by (if b then ends.Lost else ends.Pending))
+    by : (b : Bool) → with_end client seq (told_by (kind_of plan.layout (script_at plan client seq)) (reply_to client seq s.history) (last_refusal client seq s.refusals) (if b then ends.Lost else ends.Pending)) ≡ with_end client seq (loss_told_by (if b then ends.Lost else ends.Pending))
     by true = refl
     by false = refl
 
 -- nothing is told of an item that isn't there
 pub none_told : (plan : Plan) (s : State) (client seq : ℕ) → item_of plan client seq ≡ None → item_told plan s client seq ≡ []
-none_told plan s client seq is = ap (λ (o : Option PlainItem). with_end client seq (option_and_then (end_told plan s client seq) o)) is
+none_told plan s client seq is = ap (λ (o : Option PlainItem). with_end client seq (told_by (kind_of plan.layout (script_at plan client seq)) (reply_to client seq s.history) (last_refusal client seq s.refusals) (end_of s client seq o))) is
 
 -- items behind items
 pub tells-append : (a b : List EndedItem) (before between after : List ℕ) (m n : ℕ) → Tells a before between m → Tells b between after n → Tells (a ++ b) before after (m + n)

@@ -1,17 +1,20 @@
 -- The report of a run: what it tells of a state of a session, and of the moves that made it.
-use Rattle.std.specs.Prelude.{ℕ, ℤ, ◌==◌, ◌&&◌, nat_lt, Bool, if◌then◌else◌, List, [], ◌∷◌, map, length, reverse, find, Option, Some, None, unwrap_or, option_and_then}
+use Rattle.std.specs.Prelude.{ℕ, ℤ, ◌==◌, ◌&&◌, List, [], ◌∷◌, map, length, reverse, find, Option, Some, None, unwrap_or, option_and_then}
 use Rattle.std.specs.List.{flat_map, range_with_len}
 use Rattle.std.specs.Option.{option_map}
 use Rattle.std.specs.FinMap as fin
 use Rattle.txn_model.specs.declared.op.TupleId.{TupleId}
-use Rattle.catalogue.specs.Plan.{Plan, PlainItem, Run, Lose, items_of, item_of, kind_of}
+use Rattle.txn_model.specs.declared.pairs.Pair.{Pair}
+use Rattle.catalogue.specs.Plan.{Plan, items_of, kind_of, script_at}
 use Rattle.catalogue.specs.declared.actor.Actor.{Actor}
 use Rattle.catalogue.specs.declared.kind.Kind.{Kind}
-use Rattle.history_model.specs.History.{HistoryEntry}
+use Rattle.history_model.specs.History.{History}
+use Rattle.core_model.specs.declared.item_end.ItemEnd.{ItemEnd}
+use Rattle.core_model.specs.declared.item_end.ItemEnd.TheVariants as ends
 use Rattle.core_model.specs.declared.refusal.Refusal.{Refusal}
+use Rattle.core_model.specs.Ends.{answered_entry, item_end}
 use Rattle.core_model.specs.Rota.{numbers_below}
-use Rattle.core_model.specs.State.{State, client_at, seen_at}
-use Rattle.fabric_core.specs.ItemEnds.{entry_of}
+use Rattle.core_model.specs.State.{State, seen_at}
 use Rattle.report_text.specs.Report.{PlainEnd, Committed, Aborted, Lost, EndedItem, Report}
 
 -- the last refusal of a client's item; None where it has none
@@ -22,19 +25,20 @@ last_refusal client seq rs = find (λ r. (r.client == client) && (r.seq == seq))
 abbrev pub given_up : Refusal → PlainEnd
 given_up r = Aborted r.tuple r.holder r.at
 
--- a transaction with an entry was answered by it; one without, which its client is behind, was given up after its last refusal
-abbrev pub script_told : Kind → Option HistoryEntry → Option Refusal → (is_past : Bool) → Option PlainEnd
-script_told kind (Some e) refusal is_past = Some (Committed kind e.entry.stamp (unwrap_or e.pairs []))
-script_told kind None refusal is_past = if is_past then option_map given_up refusal else None
+-- what is told of an end: of a transaction, its kind and reply, or its last refusal; None where there is no end yet
+abbrev pub told_by : Kind → Option (List Pair) → Option Refusal → ItemEnd → Option PlainEnd
+told_by kind reply refusal ends.Pending = None
+told_by kind reply refusal (ends.Committed stamp) = Some (Committed kind stamp (unwrap_or reply []))
+told_by kind reply refusal ends.Aborted = option_map given_up refusal
+told_by kind reply refusal ends.Lost = Some Lost
 
--- whether a client is behind its item with this number
-abbrev pub is_past : State → ℕ → ℕ → Bool
-is_past s client seq = nat_lt seq (client_at s client).seq
+-- the pairs of an item's reply; None where it isn't answered
+abbrev pub reply_to : ℕ → ℕ → History → Option (List Pair)
+reply_to client seq h = option_and_then (λ e. e.pairs) (answered_entry client seq h)
 
 -- how this item of a client ended; None where it hasn't
-abbrev pub end_told : Plan → State → ℕ → ℕ → PlainItem → Option PlainEnd
-end_told plan s client seq (Run ops) = script_told (kind_of plan.layout ops) (entry_of client seq s.history) (last_refusal client seq s.refusals) (is_past s client seq)
-end_told plan s client seq Lose = if is_past s client seq then Some Lost else None
+abbrev pub end_told : Plan → State → ℕ → ℕ → Option PlainEnd
+end_told plan s client seq = told_by (kind_of plan.layout (script_at plan client seq)) (reply_to client seq s.history) (last_refusal client seq s.refusals) (item_end plan s client seq)
 
 -- the item with this end, where it has one
 abbrev pub with_end : ℕ → ℕ → Option PlainEnd → List EndedItem
@@ -43,7 +47,7 @@ with_end client seq (Some end) = record { client = client; seq = seq; end = end 
 
 -- the client's item with this number, counted from 1, where it has ended
 abbrev pub item_told : Plan → State → ℕ → ℕ → List EndedItem
-item_told plan s client seq = with_end client seq (option_and_then (end_told plan s client seq) (item_of plan client seq))
+item_told plan s client seq = with_end client seq (end_told plan s client seq)
 
 -- the items of a client that have ended, in order
 abbrev pub client_told : Plan → State → ℕ → List EndedItem

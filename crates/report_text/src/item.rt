@@ -11,7 +11,7 @@ use txn_model::{NoMemory, Pair, Stamp, TupleId};
 /// Appends the line of an item that was answered with these pairs. After `NoMemory` a part of it may
 /// have been appended.
 #[tactic(auto, unfolding(crate::specs::Lines::item_line))]
-pub fn push_committed(
+pub(crate) fn push_committed(
     text: &mut String,
     client: u8,
     seq: u32,
@@ -34,7 +34,7 @@ pub fn push_committed(
 /// Appends the line of an item that was given up after this refusal: the tuple, the client that held it,
 /// and the place in the trace, counted from 0. After `NoMemory` a part of it may have been appended.
 #[tactic(auto, unfolding(crate::specs::Lines::item_line))]
-pub fn push_aborted(
+pub(crate) fn push_aborted(
     text: &mut String,
     client: u8,
     seq: u32,
@@ -53,7 +53,7 @@ pub fn push_aborted(
 /// Appends the line of an item that was the loss of the switch. After `NoMemory` a part of it may have
 /// been appended.
 #[tactic(auto, unfolding(crate::specs::Lines::item_line))]
-pub fn push_lost(text: &mut String, client: u8, seq: u32) -> Result<(), NoMemory>
+pub(crate) fn push_lost(text: &mut String, client: u8, seq: u32) -> Result<(), NoMemory>
     ensures { OnOk result (string_bytes text.new ≡ string_bytes text.old
         ++ item_line (record { client = client; seq = seq; end = Lost })) }
 {

@@ -11,8 +11,6 @@ mod reply;
 mod run_report;
 mod section;
 
-pub use item::{push_aborted, push_committed, push_lost};
-pub use line::{push_count, push_entry, push_schedule, push_tuple};
 pub use run_report::write_report;
 
 #[cfg(test)]

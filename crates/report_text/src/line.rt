@@ -11,7 +11,7 @@ use txn_model::{NoMemory, TupleId};
 /// Appends the line that heads a section: its word, and how many lines follow. After `NoMemory` a part of
 /// it may have been appended.
 #[tactic(auto, unfolding(crate::specs::Lines::count_line))]
-pub fn push_count(text: &mut String, word: &str, count: usize) -> Result<(), NoMemory>
+pub(crate) fn push_count(text: &mut String, word: &str, count: usize) -> Result<(), NoMemory>
     ensures { OnOk result (string_bytes text.new
         ≡ string_bytes text.old ++ count_line word.now count) }
 {
@@ -21,7 +21,7 @@ pub fn push_count(text: &mut String, word: &str, count: usize) -> Result<(), NoM
 
 /// Appends the line of an entry of the history. After `NoMemory` a part of it may have been appended.
 #[tactic(auto, unfolding(crate::specs::Lines::entry_line))]
-pub fn push_entry(text: &mut String, entry: &Entry) -> Result<(), NoMemory>
+pub(crate) fn push_entry(text: &mut String, entry: &Entry) -> Result<(), NoMemory>
     ensures { OnOk result (string_bytes text.new ≡ string_bytes text.old ++ entry_line entry.now) }
 {
     let number = entry.stamp.number;
@@ -34,7 +34,7 @@ pub fn push_entry(text: &mut String, entry: &Entry) -> Result<(), NoMemory>
 
 /// Appends the line of a tuple and its final value. After `NoMemory` a part of it may have been appended.
 #[tactic(auto, unfolding(crate::specs::Lines::tuple_line))]
-pub fn push_tuple(text: &mut String, tuple: TupleId, value: i64) -> Result<(), NoMemory>
+pub(crate) fn push_tuple(text: &mut String, tuple: TupleId, value: i64) -> Result<(), NoMemory>
     ensures { OnOk result (string_bytes text.new
         ≡ string_bytes text.old ++ tuple_line (tuple, value)) }
 {
@@ -46,7 +46,7 @@ pub fn push_tuple(text: &mut String, tuple: TupleId, value: i64) -> Result<(), N
 /// Appends the schedule line: a word for each actor of the trace. After `NoMemory` a part of it may have
 /// been appended.
 #[tactic(auto, unfolding(crate::specs::Lines::schedule_line))]
-pub fn push_schedule(text: &mut String, trace: &[Actor]) -> Result<(), NoMemory>
+pub(crate) fn push_schedule(text: &mut String, trace: &[Actor]) -> Result<(), NoMemory>
     ensures { OnOk result (string_bytes text.new
         ≡ string_bytes text.old ++ schedule_line trace.now) }
 {

@@ -163,7 +163,7 @@ fn pairs_of(history: &History, client: u8, seq: u32) -> &[Pair]
     ensures { result.now ≡ unwrap_or (reply_of client seq history.now.items) [] }
 {
     match history.reply(client, seq) {
-        Some(pairs) => pairs,
+        Some(pairs) => pairs.as_slice(),
         None => &[],
     }
 }

@@ -1,8 +1,9 @@
 //! The whole report of a world.
 
-ghost use Rattle.std.specs.Prelude.{◌≡◌, IfOk, OnOk, OnErr, IsErrOf, string_bytes};
+ghost use Rattle.std.specs.Prelude.{◌≡◌, Some, IfOk, OnOk, OnErr, IsErrOf, string_bytes};
 ghost use Rattle.std.specs.Io.KnownBytes.{Appends};
 ghost use Rattle.core_model.specs.Laws.{IsFinished};
+ghost use Rattle.core_model.specs.Run.{state_of};
 ghost use Rattle.fabric_core.specs.Running.{state_in};
 ghost use Rattle.port_io.specs.Cause.{HasCause};
 ghost use Rattle.port_io.specs.WriteAll.{AppendsFront};
@@ -27,12 +28,15 @@ pub fn write_report<L: LogRack, N: RunName, K: Sink>(
     sink: &mut K,
 ) -> Result<(), SinkFault>
     requires finished { IsFinished (state_in world.now) }
+    ensures run { state_of world.now.plan world.now.trace ≡ Some (state_in world.now) }
     ensures ok { OnOk result (Appends (K.content sink.old) (K.content sink.new)
         (report (run_report world.now.plan (state_in world.now) world.now.trace))) }
     ensures err { OnErr result (AppendsFront (K.content sink.old) (K.content sink.new)
         (report (run_report world.now.plan (state_in world.now) world.now.trace))) }
     ensures cause { HasCause (K.faults sink.old) (K.faults sink.new) (IsErrOf result SinkFault.Failed) }
 {
+    // What the world keeps: its trace is one of moves.
+    let _ = world.trace();
     let Ok(text) = report_text(alloc, world) else {
         return Err(SinkFault::NoMemory);
     };

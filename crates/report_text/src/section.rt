@@ -18,10 +18,9 @@ pub(crate) fn push_history(text: &mut String, history: &History) -> Result<(), N
     ensures { OnOk result (string_bytes text.new
         ≡ string_bytes text.old ++ history_text (map (λ e. e.entry) history.now.items)) }
 {
-    push_count(text, "history", history.len())?;
-    for i in 0..history.len() {
-        let (entry, _) = history.get(i);
-        push_entry(text, &entry)?;
+    push_count(text, "history", history.count() as usize)?;
+    for entry in history.walk() {
+        push_entry(text, entry)?;
     }
     Ok(())
 }

@@ -1,4 +1,5 @@
-use super::*;
+use crate::item::{push_aborted, push_committed, push_lost};
+use crate::line::{push_count, push_entry, push_schedule, push_tuple};
 use catalogue::{Actor, Kind};
 use history_model::Entry;
 use std::test::Fail;

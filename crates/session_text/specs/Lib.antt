@@ -1,6 +1,5 @@
-pub mod Limits
-pub mod Faults
-pub mod Built
-pub mod FirstPlace
-pub mod Rules
-pub mod SessionOf
+pub mod SessionData
+pub mod Canonical
+pub mod AsWritten
+pub mod Typed
+pub mod Laws

@@ -1,21 +1,17 @@
-//! Sessions from their JSON text.
+//! Sessions and their texts. A session is written as its canonical text: the one text of it that has no
+//! blanks and all its keys in the order of their bytes. Reading is passed on from the crate `session_reader`.
 //!
-//! A draft is read by the grammar alone; here the limits and the rules between the sections come in, and
-//! the draft becomes a sound session. Each fault is searched for in the whole text before the next one is.
-//! This crate writes no text and runs nothing.
+//! This crate runs nothing, and writes any session, sound or not.
 #![tactic(auto)]
 
-mod build;
-mod check;
-mod fault;
-mod limits;
-mod rule;
-mod session;
-mod words;
+mod item;
+mod laws;
+mod section;
+mod write;
 
-pub use fault::{Limit, OpAt, SessionFault};
-pub use session::read_session;
-pub use session_draft::Section;
+pub use laws::{sessions_read_back, texts_read_back, values_read_back};
+pub use session_reader::{Limit, OpAt, Section, SessionFault, read_session};
+pub use write::write_session;
 
 #[cfg(test)]
 mod tests;

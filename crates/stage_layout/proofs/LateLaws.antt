@@ -1,9 +1,10 @@
 -- Parts of scripts, operation by operation.
-use Rattle.std.proofs.Common.{◌≡◌, ℕ, zero, suc, ◌+◌, ◌≤◌, ◌<◌, Bool, true, false, cond, List, [], ◌∷◌, ◌++◌, length, get_or, take, drop, Option, Some, None, refl, sym, ap, ◌∙◌, arith, add-one, length-append}
-use Rattle.std.proofs.Math.Seq.{take-suc, drop-cons, get_or-append_seam}
+use Rattle.std.proofs.Common.{◌≡◌, ℕ, ◌+◌, ◌≤◌, ◌<◌, false, List, [], ◌∷◌, ◌++◌, length, get_or, take, drop, None, refl, sym, ap, ◌∙◌, arith, add-one, length-append}
+use Rattle.std.proofs.Math.Seq.{take-suc, get_or-append_seam}
 use Rattle.std.proofs.lemmas.List.{length-take-le, take-append-drop, get_or_append_left}
 use Rattle.txn_model.specs.declared.op.Op.{Op}
-use Rattle.stage_layout.specs.Late.{Part, Before, part_at, next_part, parts_behind, parts_of, turns_badly, first_bad_turn_behind, first_bad_turn}
+use Rattle.stage_layout.specs.Late.{Part, Before, part_at, next_part, parts_behind, parts_of, turns_badly, first_bad_turn}
+use Rattle.stage_layout.proofs.Firsts.{fails_before}
 use Rattle.stage_layout.specs.declared.layout.LayoutRow.{LayoutRow}
 
 pub parts_behind-append : (rows : List LayoutRow) (parts : List Part) (xs ys : List Op) → parts_behind rows parts (xs ++ ys) ≡ parts_behind rows (parts_behind rows parts xs) ys
@@ -21,11 +22,6 @@ length-parts_of rows ops = omega (arith, length-parts_behind rows [] ops)
 pub parts_of-more : (rows : List LayoutRow) (ops : List Op) (i : ℕ) (d : Op) → i < length ops
     → parts_of rows (take (i + 1) ops) ≡ parts_of rows (take i ops) ++ next_part rows (parts_of rows (take i ops)) (get_or ops i d) ∷ []
 parts_of-more rows ops i d lt = rw (add-one, take-suc ops i d) (parts_behind-append rows [] (take i ops) (get_or ops i d ∷ []))
-
--- the search for a bad turn, one operation on
-pub first_bad_turn_step : (rows : List LayoutRow) (parts : List Part) (ops : List Op) (i : ℕ) (d : Op) → i < length ops
-    → first_bad_turn_behind rows parts (drop i ops) ≡ cond (turns_badly rows parts (get_or ops i d)) (Some (length parts)) (first_bad_turn_behind rows (parts ++ next_part rows parts (get_or ops i d) ∷ []) (drop (i + 1) ops))
-first_bad_turn_step rows parts ops i d lt = rw (add-one, drop-cons ops i d) refl
 
 -- the parts of the operations so far stay as they are
 parts_behind-keeps : (rows : List LayoutRow) (parts : List Part) (ops : List Op) (k : ℕ) → k < length parts → part_at (parts_behind rows parts ops) k ≡ part_at parts k
@@ -47,15 +43,6 @@ part_at-parts_of rows ops k d lt =
     let len : length before ≡ k = length-parts_of rows (take k ops) ∙ length-take-le k ops (omega arith) in
     part_at-take rows ops (k + 1) k (omega arith) (omega arith) ∙ ap (λ parts. part_at parts k) (parts_of-more rows ops k d lt) ∙ ap (λ j. part_at (before ++ x ∷ []) j) (sym len) ∙ get_or-append_seam before x [] Before
 
-clear : (bad : Bool) (n : ℕ) (later : Option ℕ) → cond bad (Some n) later ≡ None → (bad ≡ false) × (later ≡ None)
-clear true n later e = cc e
-clear false n later e = (refl, e)
-
-no_bad_turn_behind : (rows : List LayoutRow) (parts : List Part) (ops : List Op) (k : ℕ) (d : Op) → first_bad_turn_behind rows parts ops ≡ None → k < length ops → turns_badly rows (parts_behind rows parts (take k ops)) (get_or ops k d) ≡ false
-no_bad_turn_behind rows parts [] k d e lt = absurd (omega arith)
-no_bad_turn_behind rows parts (op ∷ ops) zero d e lt = (clear _ _ _ e).0
-no_bad_turn_behind rows parts (op ∷ ops) (suc k) d e lt = no_bad_turn_behind rows (parts ++ next_part rows parts op ∷ []) ops k d (clear _ _ _ e).1 (omega arith)
-
 -- without a bad turn no hot operation needs a late one
 pub no_bad_turn : (rows : List LayoutRow) (ops : List Op) (k : ℕ) (d : Op) → first_bad_turn rows ops ≡ None → k < length ops → turns_badly rows (parts_of rows (take k ops)) (get_or ops k d) ≡ false
-no_bad_turn rows ops k d e lt = no_bad_turn_behind rows [] ops k d e lt
+no_bad_turn rows ops k d e lt = fails_before (λ i op. turns_badly rows (parts_of rows (take i ops)) op) d ops k e lt

@@ -1,7 +1,7 @@
 -- Where the operations of a script are executed: those on hot tuples in the switch, the others on
 -- hosts, before the switch or, where they need what was found there, after it.
-use Rattle.std.specs.Prelude.{ℕ, Bool, true, false, not, ◌&&◌, List, [], ◌∷◌, ◌++◌, length, slice_index_or, Option, Some, None, is_some, if◌then◌else◌}
-use Rattle.std.specs.List.{list_any}
+use Rattle.std.specs.Prelude.{ℕ, Bool, true, false, not, ◌&&◌, List, [], ◌∷◌, ◌++◌, take, slice_index_or, position, Option, is_some, if◌then◌else◌}
+use Rattle.std.specs.List.{list_any, enumerate_from}
 use Rattle.txn_model.specs.Needs.{needs_list}
 use Rattle.txn_model.specs.declared.op.Op.{Op}
 use Rattle.txn_model.specs.declared.op.TupleId.{TupleId}
@@ -60,12 +60,6 @@ is_late rows ops k = is_after (part_at (parts_of rows ops) k)
 abbrev pub turns_badly : List LayoutRow → List Part → Op → Bool
 turns_badly rows parts op = is_hot rows op.tuple && list_any (λ n. is_after (part_at parts n.from)) (needs_list op.needs)
 
--- the number of the first such operation, behind those with these parts
-abbrev pub first_bad_turn_behind : List LayoutRow → List Part → List Op → Option ℕ
-first_bad_turn_behind rows parts [] = None
-first_bad_turn_behind rows parts (op ∷ ops) =
-    if turns_badly rows parts op then Some (length parts) else first_bad_turn_behind rows (parts ++ next_part rows parts op ∷ []) ops
-
 -- the number of the first hot operation of a script that needs a late one
 abbrev pub first_bad_turn : List LayoutRow → List Op → Option ℕ
-first_bad_turn rows ops = first_bad_turn_behind rows [] ops
+first_bad_turn rows ops = position (λ op. turns_badly rows (parts_of rows (take op.0 ops)) op.1) (enumerate_from 0 ops)

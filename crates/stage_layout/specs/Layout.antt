@@ -1,7 +1,7 @@
 -- Layouts as lists of rows: the place of a tuple, the tuple at a place, and what makes a layout unfit.
-use Rattle.std.specs.Prelude.{ℕ, ◌+◌, ◌==◌, ◌&&◌, ◌||◌, Bool, not, List, [], ◌∷◌, ◌++◌, length, Option, Some, None, is_some, if◌then◌else◌}
+use Rattle.std.specs.Prelude.{ℕ, ◌==◌, ◌&&◌, ◌||◌, Bool, not, List, [], ◌∷◌, take, position, Option, Some, None, is_some, if◌then◌else◌}
 use Rattle.std.specs.FinMap as fin
-use Rattle.std.specs.List.{list_any}
+use Rattle.std.specs.List.{list_any, enumerate_from}
 use Rattle.txn_model.specs.Places.{Places}
 use Rattle.txn_model.specs.Tuples.{Tuples, value_at}
 use Rattle.txn_model.specs.declared.op.TupleId.{TupleId}
@@ -37,10 +37,9 @@ first_cells tuples (row ∷ rows) = fin.insert (first_cells tuples rows) row.pla
 abbrev pub is_bad_row : Shape → Tuples → LayoutRow → Bool
 is_bad_row shape tuples row = not (is_some (fin.get tuples row.tuple)) || not (has_place shape row.place)
 
--- the number of the first such row; the list begins with row k
-abbrev pub first_bad_row : Shape → Tuples → ℕ → List LayoutRow → Option ℕ
-first_bad_row shape tuples k [] = None
-first_bad_row shape tuples k (row ∷ rows) = if is_bad_row shape tuples row then Some k else first_bad_row shape tuples (k + 1) rows
+-- the number of the first such row
+abbrev pub first_bad_row : Shape → Tuples → List LayoutRow → Option ℕ
+first_bad_row shape tuples rows = position (is_bad_row shape tuples) rows
 
 -- one of the rows has the tuple
 abbrev pub names_tuple : List LayoutRow → TupleId → Bool
@@ -50,11 +49,13 @@ names_tuple rows t = list_any (λ row. same_tuple row.tuple t) rows
 abbrev pub names_place : List LayoutRow → Place → Bool
 names_place rows p = list_any (λ row. same_place row.place p) rows
 
--- the number of the first row that repeats the tuple or the place of an earlier one, behind those that are known to differ
-abbrev pub first_repeat : List LayoutRow → List LayoutRow → Option ℕ
-first_repeat earlier [] = None
-first_repeat earlier (row ∷ rows) =
-    if names_tuple earlier row.tuple || names_place earlier row.place then Some (length earlier) else first_repeat (earlier ++ row ∷ []) rows
+-- one of the earlier rows has the row's tuple or its place
+abbrev pub repeats : List LayoutRow → LayoutRow → Bool
+repeats earlier row = names_tuple earlier row.tuple || names_place earlier row.place
+
+-- the number of the first row that repeats one of those before it
+abbrev pub first_repeat : List LayoutRow → Option ℕ
+first_repeat rows = position (λ row. repeats (take row.0 rows) row.1) (enumerate_from 0 rows)
 
 abbrev pub first_of : Option ℕ → (ℕ → LayoutFault) → Option LayoutFault → Option LayoutFault
 first_of None fault other = other
@@ -62,4 +63,4 @@ first_of (Some k) fault other = Some (fault k)
 
 -- what is wrong with a layout, the first in this order
 unfoldable pub layout_fault : Shape → Tuples → List LayoutRow → Option LayoutFault
-layout_fault shape tuples rows = first_of (first_bad_row shape tuples 0 rows) BadPlace (first_of (first_repeat [] rows) PlaceTwice None)
+layout_fault shape tuples rows = first_of (first_bad_row shape tuples rows) BadPlace (first_of (first_repeat rows) PlaceTwice None)

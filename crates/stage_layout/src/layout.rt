@@ -146,7 +146,7 @@ fn is_bad_row(row: &LayoutRow, shape: &Shape, tuples: &TupleMap) -> bool
 
 fn first_bad_row(rows: &[LayoutRow], shape: &Shape, tuples: &TupleMap) -> Option<u32>
     requires { length rows.now < 2 ^ 32 }
-    ensures { result ≡ first_bad_row shape.now tuples.now 0 rows.now }
+    ensures { result ≡ first_bad_row shape.now tuples.now rows.now }
 {
     for (i, row) in rows.iter().enumerate() {
         if is_bad_row(row, shape, tuples) {
@@ -158,7 +158,7 @@ fn first_bad_row(rows: &[LayoutRow], shape: &Shape, tuples: &TupleMap) -> Option
 
 fn first_repeat(alloc: Global, rows: &[LayoutRow]) -> Result<Option<u32>, NoMemory>
     requires { length rows.now < 2 ^ 32 }
-    ensures { IfOk result (λ row. row ≡ first_repeat [] rows.now) }
+    ensures { IfOk result (λ row. row ≡ first_repeat rows.now) }
 {
     let mut tuples = BTreeSet::new(alloc);
     let mut places = BTreeSet::new(alloc);

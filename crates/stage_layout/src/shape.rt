@@ -33,11 +33,19 @@ pub struct Shape {
 
 impl Shape {
     ghost use Rattle.stage_layout.specs.Shape.{has_place};
+    ghost use Rattle.stage_layout.specs.Regions.{region_of};
 
     /// Whether the place is one of the switch.
     pub fn has(&self, place: Place) -> bool
         ensures { result ≡ has_place self.now place }
     {
         place.stage < self.stages && place.array < self.arrays && place.cell < self.cells
+    }
+
+    /// The region of a stage: 0 for the left half, 1 for the right one.
+    pub fn region(&self, stage: u8) -> u8
+        ensures { result ≡ region_of self.now stage }
+    {
+        u8::from(stage >= self.split)
     }
 }

@@ -1,9 +1,9 @@
-ghost use Rattle.std.specs.Prelude.{◌<◌, ◌^◌, length};
+ghost use Rattle.std.specs.Prelude.{◌≡◌, ◌<◌, ◌^◌, length};
 
 use super::*;
 use std::alloc::Global;
 use std::test::Fail;
-use txn_model::{NoMemory, Place, TupleId, TupleMap};
+use txn_model::{Need, Needs, NoMemory, Place, TupleId, TupleMap, Which};
 
 const SHAPE: Shape = Shape {
     stages: 3,
@@ -84,5 +84,37 @@ fn the_first_row_counts(rt: HostRuntime) -> Result<(), Fail> {
         copy.first_cells(alloc, &tuples)?.rows(),
         [(rows[1].place, -5), (rows[0].place, 70)].as_slice()
     );
+    Ok(())
+}
+
+fn hot(stage: u8, array: u8, needs: Needs) -> HotOp
+    ensures { result ≡ record { place = record { stage = stage; array = array; cell = 0 }; needs = needs } }
+{
+    HotOp {
+        place: Place {
+            stage,
+            array,
+            cell: 0,
+        },
+        needs,
+    }
+}
+
+#[test]
+fn plans_have_these_passes(rt: HostRuntime) -> Result<(), Fail> {
+    let first = Needs::of(&[Need {
+        from: 0,
+        which: Which::Moved,
+    }]);
+    let along = [hot(0, 0, Needs::none()), hot(1, 0, first)];
+    let against = [hot(1, 0, Needs::none()), hot(0, 0, first)];
+    let crowded = [hot(0, 1, Needs::none()); 16];
+    let plans = [
+        plan(&SHAPE, &along),
+        plan(&SHAPE, &against),
+        plan(&SHAPE, &crowded),
+    ];
+    assert_eq!(rt; plans.map(|plan| plan.passes()), [1, 2, 16]);
+    assert_eq!(rt; plans.map(|plan| plan.halves()), [3, 3, 1]);
     Ok(())
 }

@@ -6,12 +6,12 @@ use Rattle.txn_model.specs.Needs.{needs_list}
 use Rattle.txn_model.specs.declared.op.Act.{Act}
 use Rattle.txn_model.specs.declared.op.Act.TheVariants.{Read, Put, Add, Choose}
 use Rattle.txn_model.specs.declared.op.Need.{Need}
-use Rattle.switch_packet.specs.declared.limits.TheConstants.{LONGEST_TEXT}
+use Rattle.txn_model.proofs.NeedsLaws.{length-needs_list-le}
 use Rattle.switch_packet.specs.declared.packet.PacketOp.{PacketOp}
 use Rattle.switch_packet.specs.Packets.{PlainPacket}
 use Rattle.switch_packet.specs.Ranges.{OpsFit, Fits, act_numbers}
 use Rattle.switch_packet.specs.PacketText.{i64_text, need_text, op_text, packet_text}
-use Rattle.switch_packet.proofs.NeedsLaws.{length-needs_list-le, none_below}
+use Rattle.switch_packet.proofs.NeedsLaws.{none_below}
 
 length-i64_texts : (zs : List ℤ) → length (flat_map i64_text zs) ≡ 8 * length zs
 length-i64_texts [] = refl
@@ -27,10 +27,13 @@ length-act_numbers-le (Put base) = omega arith
 length-act_numbers-le (Add base) = omega arith
 length-act_numbers-le (Choose limit above below) = omega arith
 
-length-op_text-le : (op : PacketOp) → length (op_text op) ≤ 40 + 2 * length (needs_list op.needs)
+pub length-op_text : (op : PacketOp) → length (op_text op) ≡ 16 + 8 * length (act_numbers op.act) + 2 * length (needs_list op.needs)
 unfolding op_text
-length-op_text-le op =
-    omega (arith, length-append (flat_map i64_text (act_numbers op.act)) (flat_map need_text (needs_list op.needs)), length-i64_texts (act_numbers op.act), length-need_texts (needs_list op.needs), length-act_numbers-le op.act)
+length-op_text op =
+    omega (arith, length-append (flat_map i64_text (act_numbers op.act)) (flat_map need_text (needs_list op.needs)), length-i64_texts (act_numbers op.act), length-need_texts (needs_list op.needs))
+
+length-op_text-le : (op : PacketOp) → length (op_text op) ≤ 40 + 2 * length (needs_list op.needs)
+length-op_text-le op = omega (arith, length-op_text op, length-act_numbers-le op.act)
 
 length-op_texts-le : (ops : List PacketOp) → length (flat_map op_text ops) ≤ 48 * length ops
 length-op_texts-le [] = omega arith
@@ -43,6 +46,6 @@ length-all_ops-le passes [] fits some = absurd (omega arith)
 length-all_ops-le passes (op ∷ ops) fits some =
     omega (arith, length-op_texts-le ops, length-op_text-le op, none_below (needs_list op.needs) fits.0.earlier, length-append (op_text op) (flat_map op_text ops))
 
-pub length-packet_text-le : (p : PlainPacket) → Fits p → length (packet_text p) ≤ LONGEST_TEXT
+pub length-packet_text-le : (p : PlainPacket) → Fits p → length (packet_text p) ≤ 772
 unfolding packet_text
 length-packet_text-le p fits = omega (arith, length-all_ops-le p.passes p.ops fits.ops fits.count.0, fits.count.1)

@@ -6,6 +6,9 @@ pub mod NumberCodecs
 pub mod PacketCodecs
 pub mod Exactness
 pub mod DecodeLaws
+pub mod ExecuteLaws
 pub mod ReplayLaws
+pub mod PlaceChainLaws
 pub mod LengthLaws
 pub mod RangeLaws
+pub mod LongestText

@@ -10,7 +10,6 @@ use Rattle.std.proofs.lemmas.List.{take_at, drop_at, take-append-drop, length-ap
 use Rattle.std.proofs.lemmas.Nat.{be_bytes_2, be_bytes_4, be_bytes_8, from_be_bytes-to_be_bytes_2, from_be_bytes-to_be_bytes_4, from_be_bytes-to_be_bytes_8}
 use Rattle.switch_packet.specs.declared.fault.PacketFault.{PacketFault}
 use Rattle.switch_packet.specs.declared.fault.PacketFault.TheVariants.{Short, BadByte}
-use Rattle.switch_packet.specs.declared.limits.TheConstants.{CELLS}
 use Rattle.switch_packet.specs.Fronts.{IsFront}
 use Rattle.switch_packet.specs.PacketText.{i64_text}
 use Rattle.switch_packet.specs.Reading.{Cursor, zeros_at, number_at, u32_at, u64_at, i64_at}
@@ -133,14 +132,14 @@ high_and_low high low h l = be_bytes_2 (high ∷ low ∷ []) _ refl (small high 
     small high low h l (suc zero) = omega arith
     small high low h l (suc (suc i)) = omega arith
 
-pub cell_codec : IsCodec (to_be_bytes w16) (λ c. c < CELLS) cell_at
+pub cell_codec : IsCodec (to_be_bytes w16) (λ c. c < 4096) cell_at
 unfolding cell_at
 cell_codec =
-    recast (to_be_bytes w16) (λ c. c < CELLS)
+    recast (to_be_bytes w16) (λ c. c < 4096)
     (field_codec (byte_codec 0 15 (omega arith)) (λ c. int.byte_at 1 c) (λ c v. (omega arith, omega arith)) (λ high h.
     field_codec (byte_codec 0 255 (omega arith)) (λ c. int.byte_at 0 c) (λ c v. (omega arith, omega arith)) (λ low l.
     let e = high_and_low high low h.1 l.1 in
-    done_codec (from_be_bytes w16 (high ∷ low ∷ [])) (λ c. ((c < CELLS) × (int.byte_at 1 c ≡ high)) × (int.byte_at 0 c ≡ low))
+    done_codec (from_be_bytes w16 (high ∷ low ∷ [])) (λ c. ((c < 4096) × (int.byte_at 1 c ≡ high)) × (int.byte_at 0 c ≡ low))
     ((omega (arith, h.1, l.1), cc), cc)
     (λ c v. sym (from_be_bytes-to_be_bytes_2 c (omega arith)) ∙ ap (λ (p : ℕ × ℕ). from_be_bytes w16 (p.0 ∷ p.1 ∷ [])) {x = (int.byte_at 1 c, int.byte_at 0 c)} {y = (high, low)} cc))))
     (λ c v. v) (λ c v. v) (λ c v. refl)

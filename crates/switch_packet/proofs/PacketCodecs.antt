@@ -5,17 +5,15 @@ use Rattle.std.specs.Int.{w16, w32, w64, to_be_bytes}
 use Rattle.std.specs.List.{flat_map, AllByRecursion}
 use Rattle.std.proofs.lemmas.Bool.Decides.{nat_tests}
 use Rattle.std.proofs.lemmas.List.{append-nil, nil_from_length}
-use Rattle.txn_model.specs.Needs.{needs_list}
+use Rattle.txn_model.specs.Needs.{needs_list, needs_of}
 use Rattle.txn_model.specs.ScriptCheck.{is_read}
 use Rattle.txn_model.specs.declared.op.Act.{Act}
 use Rattle.txn_model.specs.declared.op.Act.TheVariants.{Read, Put, Add, Choose}
 use Rattle.txn_model.specs.declared.op.Need.{Need}
 use Rattle.txn_model.specs.declared.op.Needs.{Needs}
-use Rattle.txn_model.specs.declared.op.Needs.TheVariants.{Zero, One, Two, Three, Four}
 use Rattle.txn_model.specs.declared.op.Which.{Which}
 use Rattle.txn_model.specs.declared.op.Which.TheVariants.{Old, Moved}
-use Rattle.switch_packet.specs.declared.format.TheConstants.{PACKET_MARK, VERSION}
-use Rattle.switch_packet.specs.declared.limits.TheConstants.{CLIENTS, MOST_PASSES, BOTH_HALVES, MOST_PACKET_OPS, STAGES, ARRAYS, CELLS}
+use Rattle.txn_model.proofs.NeedsLaws.{needs_of-needs_list, needs_list-needs_of, length-needs_list-le}
 use Rattle.switch_packet.specs.declared.decode.OpHead.{OpHead}
 use Rattle.switch_packet.specs.declared.decode.PacketHead.{PacketHead}
 use Rattle.switch_packet.specs.declared.packet.PacketOp.{PacketOp}
@@ -23,10 +21,10 @@ use Rattle.switch_packet.specs.Packets.{PlainPacket}
 use Rattle.switch_packet.specs.Ranges.{IsOneTo, OpFits, OpsFit, act_numbers, OpIsTyped, IsPacket}
 use Rattle.switch_packet.specs.PacketText.{i64_text, act_byte, which_byte, need_text, op_text, packet_text}
 use Rattle.switch_packet.specs.Reading.{each_at}
-use Rattle.switch_packet.specs.PacketReading.{most_needs, op_head_at, bias_at, act_at, which_of, need_at, needs_of, needs_at, op_at, packet_head_at, packet_at}
+use Rattle.switch_packet.specs.PacketReading.{most_needs, op_head_at, bias_at, act_at, which_of, need_at, needs_at, op_at, packet_head_at, packet_at}
 use Rattle.switch_packet.proofs.Codecs.{IsCodec, EachIs, byte_codec, field_codec, done_codec, recast, each_codec}
 use Rattle.switch_packet.proofs.NumberCodecs.{u32_codec, i64_codec, zeros_codec, cell_codec}
-use Rattle.switch_packet.proofs.NeedsLaws.{needs_of-needs_list, needs_list-needs_of, length-needs_list-le, none_below}
+use Rattle.switch_packet.proofs.NeedsLaws.{none_below}
 
 -- ---- the acts
 
@@ -175,17 +173,13 @@ each_from_all : (k i : ℕ) (ns : List Need) → AllByRecursion (λ n. n.from < 
 each_from_all k i [] v = tt
 each_from_all k i (n ∷ ns) v = (v.0, each_from_all k (i + 1) ns v.1)
 
-no_needs : (needs : Needs) → length (needs_list needs) ≡ 0 → needs ≡ Zero
-no_needs Zero e = refl
-no_needs (One a) e = absurd (omega arith)
-no_needs (Two a b) e = absurd (omega arith)
-no_needs (Three a b c) e = absurd (omega arith)
-no_needs (Four a b c d) e = absurd (omega arith)
+no_needs : (needs : Needs) → length (needs_list needs) ≡ 0 → needs ≡ needs_of []
+no_needs needs e = sym (needs_of-needs_list needs) ∙ ap needs_of (nil_from_length (needs_list needs) (omega (arith, e)))
 
 needs_codec : (k count : ℕ) → count ≤ 4 → (1 ≤ count → 1 ≤ k) → IsCodec needs_text (NeedsAre k count) (needs_at k count)
 unfolding needs_at each_at
 needs_codec k zero few later =
-    recast needs_text (NeedsAre k 0) (done_codec Zero (NeedsAre k 0) (refl, tt) (λ needs v. no_needs needs v.0)) (λ needs v. v) (λ needs v. v) (λ needs v. rw (no_needs needs v.0) refl)
+    recast needs_text (NeedsAre k 0) (done_codec (needs_of []) (NeedsAre k 0) (refl, tt) (λ needs v. no_needs needs v.0)) (λ needs v. v) (λ needs v. v) (λ needs v. rw (no_needs needs v.0) refl)
 needs_codec k (suc count) few later =
     recast needs_text (NeedsAre k (suc count))
     (field_codec (each_codec need_text (λ _ n. n.from < k) (λ _. need_at k) (λ _. need_codec k (later (omega arith))) (suc count) 0) needs_list (λ needs v. (v.0, each_from_all k 0 (needs_list needs) v.1)) (λ ns v.
@@ -199,10 +193,10 @@ needs_codec k (suc count) few later =
 
 record IsOpHead (passes k : ℕ) (h : OpHead) : Type 0 where
   pass : IsOneTo passes h.pass
-  stage : h.place.stage < STAGES
-  array : h.place.array < ARRAYS
+  stage : h.place.stage < 12
+  array : h.place.array < 4
   act : h.act ≤ 3
-  cell : h.place.cell < CELLS
+  cell : h.place.cell < 4096
   needs : h.needs ≤ most_needs h.act k
 
 abbrev op_head_text : OpHead → List ℕ
@@ -213,8 +207,8 @@ unfolding op_head_at
 op_head_codec passes k some =
     recast op_head_text (IsOpHead passes k)
     (field_codec (byte_codec 1 passes some) (λ (h : OpHead). h.pass) (λ h v. v.pass) (λ pass p.
-    field_codec (byte_codec 0 (STAGES - 1) (omega arith)) (λ (h : OpHead). h.place.stage) (λ h v. let b = v.0.stage in (omega arith, omega arith)) (λ stage s.
-    field_codec (byte_codec 0 (ARRAYS - 1) (omega arith)) (λ (h : OpHead). h.place.array) (λ h v. let b = v.0.0.array in (omega arith, omega arith)) (λ array a.
+    field_codec (byte_codec 0 11 (omega arith)) (λ (h : OpHead). h.place.stage) (λ h v. let b = v.0.stage in (omega arith, omega arith)) (λ stage s.
+    field_codec (byte_codec 0 3 (omega arith)) (λ (h : OpHead). h.place.array) (λ h v. let b = v.0.0.array in (omega arith, omega arith)) (λ array a.
     field_codec (byte_codec 0 3 (omega arith)) (λ (h : OpHead). h.act) (λ h v. (omega arith, v.0.0.0.act)) (λ act t.
     field_codec cell_codec (λ (h : OpHead). h.place.cell) (λ h v. v.0.0.0.0.cell) (λ cell c.
     field_codec (byte_codec 0 (most_needs act k) (omega arith)) (λ (h : OpHead). h.needs) (λ h v. (omega arith, subst (λ (b : ℕ). h.needs ≤ most_needs b k) v.0.1 v.0.0.0.0.0.needs)) (λ needs n.
@@ -320,30 +314,30 @@ op_codec passes k some =
 -- ---- packets
 
 record IsPacketHead (h : PacketHead) : Type 0 where
-  client : h.client < CLIENTS
+  client : h.client < 8
   seq : h.seq < 2 ^ 32
-  passes : IsOneTo MOST_PASSES h.passes
-  halves : IsOneTo BOTH_HALVES h.halves
-  ops : IsOneTo MOST_PACKET_OPS h.ops
+  passes : IsOneTo 16 h.passes
+  halves : IsOneTo 3 h.halves
+  ops : IsOneTo 16 h.ops
 
 abbrev packet_head_text : PacketHead → List ℕ
-packet_head_text h = PACKET_MARK ∷ VERSION ∷ h.client ∷ 0 ∷ to_be_bytes w32 h.seq ++ h.passes ∷ h.halves ∷ h.ops ∷ 0 ∷ []
+packet_head_text h = 0x50 ∷ 1 ∷ h.client ∷ 0 ∷ to_be_bytes w32 h.seq ++ h.passes ∷ h.halves ∷ h.ops ∷ 0 ∷ []
 
 packet_head_codec : IsCodec packet_head_text IsPacketHead packet_head_at
 unfolding packet_head_at
 packet_head_codec =
     recast packet_head_text IsPacketHead
-    (field_codec (byte_codec PACKET_MARK PACKET_MARK (omega arith)) (λ (h : PacketHead). PACKET_MARK) (λ h v. (omega arith, omega arith)) (λ mark m.
-    field_codec (byte_codec VERSION VERSION (omega arith)) (λ (h : PacketHead). VERSION) (λ h v. (omega arith, omega arith)) (λ version n.
-    field_codec (byte_codec 0 (CLIENTS - 1) (omega arith)) (λ (h : PacketHead). h.client) (λ h v. let b = v.0.0.client in (omega arith, omega arith)) (λ client c.
+    (field_codec (byte_codec 0x50 0x50 (omega arith)) (λ (h : PacketHead). 0x50) (λ h v. (omega arith, omega arith)) (λ mark m.
+    field_codec (byte_codec 1 1 (omega arith)) (λ (h : PacketHead). 1) (λ h v. (omega arith, omega arith)) (λ version n.
+    field_codec (byte_codec 0 7 (omega arith)) (λ (h : PacketHead). h.client) (λ h v. let b = v.0.0.client in (omega arith, omega arith)) (λ client c.
     field_codec (byte_codec 0 0 (omega arith)) (λ (h : PacketHead). 0) (λ h v. (omega arith, omega arith)) (λ filler f.
     field_codec u32_codec (λ (h : PacketHead). h.seq) (λ h v. v.0.0.0.0.seq) (λ seq s.
-    field_codec (byte_codec 1 MOST_PASSES (omega arith)) (λ (h : PacketHead). h.passes) (λ h v. v.0.0.0.0.0.passes) (λ passes p.
-    field_codec (byte_codec 1 BOTH_HALVES (omega arith)) (λ (h : PacketHead). h.halves) (λ h v. v.0.0.0.0.0.0.halves) (λ halves t.
-    field_codec (byte_codec 1 MOST_PACKET_OPS (omega arith)) (λ (h : PacketHead). h.ops) (λ h v. v.0.0.0.0.0.0.0.ops) (λ ops o.
+    field_codec (byte_codec 1 16 (omega arith)) (λ (h : PacketHead). h.passes) (λ h v. v.0.0.0.0.0.passes) (λ passes p.
+    field_codec (byte_codec 1 3 (omega arith)) (λ (h : PacketHead). h.halves) (λ h v. v.0.0.0.0.0.0.halves) (λ halves t.
+    field_codec (byte_codec 1 16 (omega arith)) (λ (h : PacketHead). h.ops) (λ h v. v.0.0.0.0.0.0.0.ops) (λ ops o.
     field_codec (byte_codec 0 0 (omega arith)) (λ (h : PacketHead). 0) (λ h v. (omega arith, omega arith)) (λ last l.
     done_codec (record { client = client; seq = seq; passes = passes; halves = halves; ops = ops })
-    (λ h. ((((((((IsPacketHead h × (PACKET_MARK ≡ mark)) × (VERSION ≡ version)) × (h.client ≡ client)) × (0 ≡ filler)) × (h.seq ≡ seq)) × (h.passes ≡ passes)) × (h.halves ≡ halves)) × (h.ops ≡ ops)) × (0 ≡ last))
+    (λ h. ((((((((IsPacketHead h × (0x50 ≡ mark)) × (1 ≡ version)) × (h.client ≡ client)) × (0 ≡ filler)) × (h.seq ≡ seq)) × (h.passes ≡ passes)) × (h.halves ≡ halves)) × (h.ops ≡ ops)) × (0 ≡ last))
     (((((((((record { client = omega (arith, c.1); seq = s; passes = p; halves = t; ops = o }, omega (arith, m.0, m.1)), omega (arith, n.0, n.1)), refl), omega (arith, f.1)), refl), refl), refl), refl), omega (arith, l.1))
     (λ h v. rw (← v.0.0.0.0.0.0.1, ← v.0.0.0.0.1, ← v.0.0.0.1, ← v.0.0.1, ← v.0.1) refl)))))))))))
     (λ h v. v) (λ h v. v) (λ h v. refl)
@@ -363,7 +357,7 @@ made_packet : (h : PacketHead) (ops : List PacketOp) → IsPacketHead h → (len
 made_packet h ops v e =
     let each = fit_from_each h.passes 0 ops e.1 in
     record {
-      fits = record { client = v.client; passes = v.passes; halves = v.halves; count = subst (IsOneTo MOST_PACKET_OPS) (sym e.0) v.ops; ops = each.0 };
+      fits = record { client = v.client; passes = v.passes; halves = v.halves; count = subst (IsOneTo 16) (sym e.0) v.ops; ops = each.0 };
       typed = record { seq = v.seq; ops = each.1 };
     }
 

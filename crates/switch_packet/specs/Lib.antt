@@ -6,4 +6,5 @@ pub mod Writing
 pub mod Reading
 pub mod PacketReading
 pub mod Replay
+pub mod PlaceChain
 pub mod Laws

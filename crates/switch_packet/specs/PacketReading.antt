@@ -1,15 +1,13 @@
 -- Reading a packet from left to right, with the first fault that is met.
 use Rattle.std.specs.Prelude.{◌≡◌, drop, ℕ, zero, suc, ℤ, pos, ◌-◌, ◌/◌, List, [], ◌∷◌, Result, Ok, Err, ◌||◌, ◌==◌, if◌then◌else◌}
 use Rattle.std.specs.Int.{w16, from_be_bytes}
+use Rattle.txn_model.specs.Needs.{needs_of}
 use Rattle.txn_model.specs.declared.op.Act.{Act}
 use Rattle.txn_model.specs.declared.op.Act.TheVariants.{Read, Put, Add, Choose}
 use Rattle.txn_model.specs.declared.op.Need.{Need}
 use Rattle.txn_model.specs.declared.op.Needs.{Needs}
-use Rattle.txn_model.specs.declared.op.Needs.TheVariants.{Zero, One, Two, Three, Four}
 use Rattle.txn_model.specs.declared.op.Which.{Which}
 use Rattle.txn_model.specs.declared.op.Which.TheVariants.{Old, Moved}
-use Rattle.switch_packet.specs.declared.format.TheConstants.{PACKET_MARK, VERSION, READ, CHOOSE, OLD, MOVED}
-use Rattle.switch_packet.specs.declared.limits.TheConstants.{CLIENTS, MOST_PASSES, BOTH_HALVES, MOST_PACKET_OPS, MOST_NEEDS, STAGES, ARRAYS, CELLS}
 use Rattle.switch_packet.specs.declared.fault.PacketFault.{PacketFault}
 use Rattle.switch_packet.specs.declared.decode.OpHead.{OpHead}
 use Rattle.switch_packet.specs.declared.decode.PacketHead.{PacketHead}
@@ -19,24 +17,24 @@ use Rattle.switch_packet.specs.Reading.{Cursor, ◌>>=◌, byte_at, zeros_at, u3
 
 -- ---- operations
 
--- a cell, the highest byte first
+-- a cell, the highest byte first: below 4,096
 unfoldable pub cell_at : Cursor → Result (ℕ × Cursor) PacketFault
 cell_at c = do
-  high ← byte_at 0 ((CELLS - 1) / 256) c
+  high ← byte_at 0 15 c
   low ← byte_at 0 255 high.1
   Ok (from_be_bytes w16 (high.0 ∷ low.0 ∷ []), low.1)
 
 -- the most needs that operation k may have, where the act has this byte
 abbrev pub most_needs : ℕ → ℕ → ℕ
-most_needs act k = if act == READ || k == 0 then 0 else MOST_NEEDS
+most_needs act k = if act == 0 || k == 0 then 0 else 4
 
 -- the first 8 bytes of operation k
 unfoldable pub op_head_at : ℕ → ℕ → Cursor → Result (OpHead × Cursor) PacketFault
 op_head_at passes k c = do
   pass ← byte_at 1 passes c
-  stage ← byte_at 0 (STAGES - 1) pass.1
-  array ← byte_at 0 (ARRAYS - 1) stage.1
-  act ← byte_at READ CHOOSE array.1
+  stage ← byte_at 0 11 pass.1
+  array ← byte_at 0 3 stage.1
+  act ← byte_at 0 3 array.1
   cell ← cell_at act.1
   needs ← byte_at 0 (most_needs act.0 k) cell.1
   reserved ← byte_at 0 0 needs.1
@@ -73,16 +71,8 @@ which_of (suc b) = Moved
 unfoldable pub need_at : ℕ → Cursor → Result (Need × Cursor) PacketFault
 need_at k c = do
   from ← byte_at 0 (k - 1) c
-  which ← byte_at OLD MOVED from.1
+  which ← byte_at 0 1 from.1
   Ok (record { from = from.0; which = which_of which.0 }, which.1)
-
--- the needs that have this list, which has at most four
-abbrev pub needs_of : List Need → Needs
-needs_of [] = Zero
-needs_of (a ∷ []) = One a
-needs_of (a ∷ b ∷ []) = Two a b
-needs_of (a ∷ b ∷ c ∷ []) = Three a b c
-needs_of (a ∷ b ∷ c ∷ d ∷ rest) = Four a b c d
 
 -- so many needs of operation k
 unfoldable pub needs_at : ℕ → ℕ → Cursor → Result (Needs × Cursor) PacketFault
@@ -104,14 +94,14 @@ op_at passes k c = do
 -- the first 12 bytes
 unfoldable pub packet_head_at : Cursor → Result (PacketHead × Cursor) PacketFault
 packet_head_at c = do
-  mark ← byte_at PACKET_MARK PACKET_MARK c
-  version ← byte_at VERSION VERSION mark.1
-  client ← byte_at 0 (CLIENTS - 1) version.1
+  mark ← byte_at 0x50 0x50 c
+  version ← byte_at 1 1 mark.1
+  client ← byte_at 0 7 version.1
   reserved ← byte_at 0 0 client.1
   seq ← u32_at reserved.1
-  passes ← byte_at 1 MOST_PASSES seq.1
-  halves ← byte_at 1 BOTH_HALVES passes.1
-  ops ← byte_at 1 MOST_PACKET_OPS halves.1
+  passes ← byte_at 1 16 seq.1
+  halves ← byte_at 1 3 passes.1
+  ops ← byte_at 1 16 halves.1
   reserved_too ← byte_at 0 0 ops.1
   Ok (record { client = client.0; seq = seq.0; passes = passes.0; halves = halves.0; ops = ops.0 }, reserved_too.1)
 

@@ -8,7 +8,6 @@ use Rattle.txn_model.specs.declared.op.Act.TheVariants.{Read, Put, Add, Choose}
 use Rattle.txn_model.specs.declared.op.Need.{Need}
 use Rattle.txn_model.specs.declared.op.Which.{Which}
 use Rattle.txn_model.specs.declared.op.Which.TheVariants.{Old, Moved}
-use Rattle.switch_packet.specs.declared.format.TheConstants.{PACKET_MARK, VERSION, READ, PUT, ADD, CHOOSE, OLD, MOVED}
 use Rattle.switch_packet.specs.declared.packet.PacketOp.{PacketOp}
 use Rattle.switch_packet.specs.Packets.{PlainPacket}
 use Rattle.switch_packet.specs.Ranges.{act_numbers}
@@ -19,15 +18,15 @@ i64_text z = to_be_bytes w64 (cast_unsigned w64 z)
 
 -- which act it is
 abbrev pub act_byte : Act → ℕ
-act_byte Read = READ
-act_byte (Put base) = PUT
-act_byte (Add base) = ADD
-act_byte (Choose limit above below) = CHOOSE
+act_byte Read = 0
+act_byte (Put base) = 1
+act_byte (Add base) = 2
+act_byte (Choose limit above below) = 3
 
 -- which part of an earlier pair is needed
 abbrev pub which_byte : Which → ℕ
-which_byte Old = OLD
-which_byte Moved = MOVED
+which_byte Old = 0
+which_byte Moved = 1
 
 -- the operation that is needed, and which part of its pair
 abbrev pub need_text : Need → List ℕ
@@ -44,6 +43,6 @@ op_text op =
 -- 12 bytes, then the operations
 unfoldable pub packet_text : PlainPacket → List ℕ
 packet_text p =
-    PACKET_MARK ∷ VERSION ∷ p.client ∷ 0 ∷ to_be_bytes w32 p.seq
+    0x50 ∷ 1 ∷ p.client ∷ 0 ∷ to_be_bytes w32 p.seq
     ++ p.passes ∷ p.halves ∷ length p.ops ∷ 0 ∷ []
     ++ flat_map op_text p.ops

@@ -6,7 +6,6 @@ use Rattle.txn_model.specs.Needs.{needs_list}
 use Rattle.txn_model.specs.ScriptCheck.{is_read}
 use Rattle.txn_model.specs.declared.op.Act.{Act}
 use Rattle.txn_model.specs.declared.op.Act.TheVariants.{Read, Put, Add, Choose}
-use Rattle.switch_packet.specs.declared.limits.TheConstants.{CLIENTS, MOST_PASSES, BOTH_HALVES, MOST_PACKET_OPS, STAGES, ARRAYS, CELLS}
 use Rattle.switch_packet.specs.declared.packet.PacketOp.{PacketOp}
 use Rattle.switch_packet.specs.Packets.{PlainPacket}
 
@@ -17,9 +16,9 @@ IsOneTo most n = (1 ≤ n) × (n ≤ most)
 -- operation k of a packet of so many passes has its fields in their ranges
 pub record OpFits (passes k : ℕ) (op : PacketOp) : Type 0 where
   pub pass : IsOneTo passes op.pass
-  pub stage : op.place.stage < STAGES
-  pub array : op.place.array < ARRAYS
-  pub cell : op.place.cell < CELLS
+  pub stage : op.place.stage < 12
+  pub array : op.place.array < 4
+  pub cell : op.place.cell < 4096
   pub earlier : AllByRecursion (λ need. need.from < k) (needs_list op.needs)
   pub read : IsTrue (is_read op.act) → (op.bias ≡ pos 0) × (needs_list op.needs ≡ [])
 
@@ -30,10 +29,10 @@ OpsFit passes k (op ∷ ops) = OpFits passes k op × OpsFit passes (k + 1) ops
 
 -- the packet has its fields in their ranges, and its operations theirs
 pub record Fits (p : PlainPacket) : Type 0 where
-  pub client : p.client < CLIENTS
-  pub passes : IsOneTo MOST_PASSES p.passes
-  pub halves : IsOneTo BOTH_HALVES p.halves
-  pub count : IsOneTo MOST_PACKET_OPS (length p.ops)
+  pub client : p.client < 8
+  pub passes : IsOneTo 16 p.passes
+  pub halves : IsOneTo 3 p.halves
+  pub count : IsOneTo 16 (length p.ops)
   pub ops : OpsFit p.passes 0 p.ops
 
 -- the numbers that an act carries

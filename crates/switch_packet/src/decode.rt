@@ -123,7 +123,7 @@ fn read_need(reader: &mut Reader<'_>, number: u8) -> Result<Need, PacketFault>
 }
 
 fn read_needs(reader: &mut Reader<'_>, number: u8, count: u8) -> Result<Needs, PacketFault>
-    requires few { count ≤ MOST_NEEDS }
+    requires few { count ≤ 4 }
     requires later { 1 ≤ count → 1 ≤ number }
     ensures { Reads reader.new result (needs_at number count reader.old) }
 {
@@ -172,7 +172,7 @@ fn read_ops(
 #[tactic(auto, unfolding(crate::specs::PacketReading::packet_head_at))]
 fn read_packet_head(reader: &mut Reader<'_>) -> Result<PacketHead, PacketFault>
     ensures value { Reads reader.new result (packet_head_at reader.old) }
-    ensures few { IfOk result (λ head. head.ops ≤ MOST_PACKET_OPS) }
+    ensures few { IfOk result (λ head. head.ops ≤ 16) }
 {
     reader.byte(PACKET_MARK, PACKET_MARK)?;
     reader.byte(VERSION, VERSION)?;
@@ -194,7 +194,7 @@ fn read_packet_head(reader: &mut Reader<'_>) -> Result<PacketHead, PacketFault>
 
 #[tactic(auto, unfolding(crate::specs::PacketReading::packet_at))]
 fn read_fields(reader: &mut Reader<'_>, to: &mut Packet) -> Result<(), PacketFault>
-    requires { MOST_PACKET_OPS ≤ room_of to.old.ops }
+    requires { 16 ≤ room_of to.old.ops }
     ensures value { ReadsAs (plain to.new) reader.new result (packet_at reader.old) }
     ensures room { room_of to.new.ops ≡ room_of to.old.ops }
 {
@@ -209,7 +209,7 @@ fn read_fields(reader: &mut Reader<'_>, to: &mut Packet) -> Result<(), PacketFau
 
 /// Reads a packet's text into `to`. The room for operations is kept. After a fault `to` is blank.
 pub fn read_packet(reader: &mut Reader<'_>, to: &mut Packet) -> Result<(), PacketFault>
-    requires { MOST_PACKET_OPS ≤ room_of to.old.ops }
+    requires { 16 ≤ room_of to.old.ops }
     ensures value { ReadsAs (plain to.new) reader.new result (packet_at reader.old) }
     ensures blank { OnErr result (plain to.new ≡ blank_packet) }
     ensures room { room_of to.new.ops ≡ room_of to.old.ops }
@@ -222,7 +222,7 @@ pub fn read_packet(reader: &mut Reader<'_>, to: &mut Packet) -> Result<(), Packe
 }
 
 fn decode(bytes: &[u8], to: &mut Packet) -> Result<usize, PacketFault>
-    requires { MOST_PACKET_OPS ≤ room_of to.old.ops }
+    requires { 16 ≤ room_of to.old.ops }
     ensures exact { Decodes (plain to.new) bytes.now result (packet_at (start bytes.now)) }
     ensures blank { OnErr result (plain to.new ≡ blank_packet) }
     ensures room { room_of to.new.ops ≡ room_of to.old.ops }
@@ -235,7 +235,7 @@ fn decode(bytes: &[u8], to: &mut Packet) -> Result<usize, PacketFault>
 /// Reads the packet's text at the front of the bytes into `to`, and answers how many bytes it takes. The
 /// room for operations is kept. After a fault `to` is blank. It takes no memory.
 pub fn decode_into(bytes: &[u8], to: &mut Packet) -> Result<usize, PacketFault>
-    requires { MOST_PACKET_OPS ≤ room_of to.old.ops }
+    requires { 16 ≤ room_of to.old.ops }
     // The bytes that were read are the text of the packet that `to` is now.
     ensures found { IfOk result (λ n. IsPacket (plain to.new) × (n ≤ length bytes.now)
         × (take n bytes.now ≡ packet_text (plain to.new))) }

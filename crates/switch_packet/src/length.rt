@@ -7,7 +7,6 @@ ghost use Rattle.switch_packet.specs.Packets.{plain};
 ghost use Rattle.switch_packet.specs.Ranges.{Fits, act_numbers};
 ghost use Rattle.switch_packet.specs.PacketText.{i64_text, op_text, packet_text};
 
-use crate::limits::{LONGEST_TEXT, MOST_PACKET_OPS};
 use crate::packet::{Packet, PacketOp};
 use txn_model::Act;
 
@@ -30,7 +29,7 @@ fn op_len(op: &PacketOp) -> usize
 }
 
 fn ops_len(ops: &[PacketOp]) -> usize
-    requires { length ops.now ≤ MOST_PACKET_OPS }
+    requires { length ops.now ≤ 16 }
     ensures value { result ≡ length (flat_map op_text ops.now) }
     ensures bound { result ≤ 48 * length ops.now }
 {
@@ -46,7 +45,7 @@ fn ops_len(ops: &[PacketOp]) -> usize
 pub fn packet_len(packet: &Packet) -> usize
     requires { Fits (plain packet.now) }
     ensures value { result ≡ length (packet_text (plain packet.now)) }
-    ensures bound { result ≤ LONGEST_TEXT }
+    ensures bound { result ≤ 772 }
 {
     12 + ops_len(packet.ops.as_slice())
 }

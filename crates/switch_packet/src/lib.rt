@@ -20,7 +20,7 @@ mod writer;
 pub use decode::{decode_into, read_packet};
 pub use encode::encode_into;
 pub use fault::PacketFault;
-pub use laws::{one_pair_each, replays_in_turn, texts_are_short, texts_differ};
+pub use laws::{one_pair_each, replays_are_chains, replays_in_turn, texts_are_short, texts_differ};
 pub use length::packet_len;
 pub use limits::{
     ARRAYS, BOTH_HALVES, CELLS, CLIENTS, LONGEST_TEXT, MOST_NEEDS, MOST_PACKET_OPS, MOST_PASSES,

@@ -1,4 +1,4 @@
-//! The ranges of a packet's fields, said once for the code and for the definitions.
+//! The ranges of a packet's fields, as the code names them. The definitions have them as numbers.
 
 /// How many clients there may be.
 pub const CLIENTS: u8 = 8;

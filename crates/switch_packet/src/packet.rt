@@ -42,7 +42,7 @@ impl Packet {
     /// A packet without operations, all its numbers 0, with room for 16 operations.
     pub fn blank(alloc: Global) -> Result<Packet, NoMemory>
         ensures blank { IfOk result (λ packet. plain packet ≡ blank_packet) }
-        ensures room { IfOk result (λ packet. MOST_PACKET_OPS ≤ packet.ops.spare) }
+        ensures room { IfOk result (λ packet. 16 ≤ packet.ops.spare) }
     {
         Ok(Packet {
             client: 0,

@@ -33,16 +33,16 @@ fn add(stage: u8, base: i64, needs: Needs) -> PacketOp {
 fn a_packet_has_this_text(rt: HostRuntime) -> Result<(), Fail> {
     let mut packet = Packet::blank(rt.alloc())?;
     let length = decode_into(&PAYMENT, &mut packet)?;
-    let moved = Needs::One(Need {
+    let moved = Needs::of(&[Need {
         from: 0,
         which: Which::Moved,
-    });
+    }]);
     assert_eq!(rt; length, 62);
     assert_eq!(rt; (packet.client, packet.seq), (0, 1));
     assert_eq!(rt; (packet.passes, packet.halves), (1, 3));
     assert_eq!(rt;
         packet.ops.as_slice(),
-        [add(0, -3, Needs::Zero), add(1, 0, moved)].as_slice()
+        [add(0, -3, Needs::none()), add(1, 0, moved)].as_slice()
     );
     Ok(())
 }
@@ -63,18 +63,26 @@ fn a_front_of_a_text_is_short(rt: HostRuntime) -> Result<(), Fail> {
     Ok(())
 }
 
-// A filler, halves, passes and a pass beyond their ranges, a need of the operation itself, a cell beyond the
-// last, and too many operations.
+// Each byte that has a range, one above it, from the front to the back of a text, and a need of the operation
+// itself.
 #[test]
 fn the_first_bad_byte_is_named(rt: HostRuntime) -> Result<(), Fail> {
     for (place, byte) in [
-        (3, 1),
-        (9, 4),
-        (8, 23),
-        (12, 2),
-        (60, 1),
-        (40, 16),
-        (10, 17),
+        (0, 0x51), // the mark
+        (1, 2), // the version
+        (2, 8), // the client
+        (3, 1), // a filler
+        (8, 17), // the passes
+        (9, 4), // the halves
+        (10, 17), // the operations
+        (12, 2), // a pass
+        (13, 12), // a stage
+        (14, 4), // an array
+        (15, 4), // an act
+        (16, 16), // a cell
+        (42, 5), // the needs
+        (60, 1), // a need
+        (61, 2), // what is needed
     ] {
         let mut bytes = PAYMENT;
         if let Some(changed) = bytes.get_mut(place) {

@@ -3,3 +3,7 @@ pub mod TupleOrder
 pub mod OperandLaws
 pub mod PlaceOrder
 pub mod SerialLaws
+pub mod Values
+pub mod NeedsLaws
+pub mod WrapLaws
+pub mod FirstPlaces

@@ -15,6 +15,7 @@ use Rattle.txn_model.specs.declared.op.TupleId.{TupleId}
 use Rattle.txn_model.specs.declared.pairs.Pair.{Pair}
 use Rattle.txn_model.specs.declared.script.ScriptFault.{ScriptFault}
 use Rattle.txn_model.specs.declared.script.ScriptFault.TheVariants.{Empty, TooLong, TupleTwice, BadUse}
+use Rattle.txn_model.proofs.FirstPlaces.{bad_use_from, first_bad_use_counted}
 use Rattle.txn_model.proofs.OperandLaws.{drop_at_item}
 use Rattle.txn_model.proofs.TupleOrder.{tuple_cmp_total}
 
@@ -40,23 +41,23 @@ skip_first None f r h = (refl, h)
 skip_first (Some k) f r h = cc
 
 -- a sound script has no bad use
-pub sound_uses : (ops : List Op) → script_fault ops ≡ None → first_bad_use 0 ops ≡ None
+pub sound_uses : (ops : List Op) → script_fault ops ≡ None → first_bad_use ops ≡ None
 unfolding script_fault
 sound_uses ops h =
-    let uses = first_of (first_bad_use 0 ops) BadUse None in
-    let repeats = first_of (first_repeat [] ops) TupleTwice uses in
+    let uses = first_of (first_bad_use ops) BadUse None in
+    let repeats = first_of (first_repeat ops) TupleTwice uses in
     let size = if nat_lt 16 (length ops) then Some (TooLong (length ops)) else repeats in
     let filled = (skip_if (length ops == 0) Empty size h).1 in
     let short = (skip_if (nat_lt 16 (length ops)) (TooLong (length ops)) repeats filled).1 in
-    (skip_first (first_bad_use 0 ops) BadUse None (skip_first (first_repeat [] ops) TupleTwice uses short).1).0
+    (skip_first (first_bad_use ops) BadUse None (skip_first (first_repeat ops) TupleTwice uses short).1).0
 
-no_bad_use_at : (k : ℕ) (ops : List Op) (i : ℕ) (op : Op) → first_bad_use k ops ≡ None → slice_get ops i ≡ Some op → uses_badly (k + i) op ≡ false
+no_bad_use_at : (k : ℕ) (ops : List Op) (i : ℕ) (op : Op) → bad_use_from k ops ≡ None → slice_get ops i ≡ Some op → uses_badly (k + i) op ≡ false
 no_bad_use_at k [] i op h e = cc
 no_bad_use_at k (x ∷ ops) zero op h e =
     let same : x ≡ op = cc in
-    subst (λ (n : ℕ). uses_badly n op ≡ false) {x = k} (omega arith) (subst (λ (y : Op). uses_badly k y ≡ false) same (skip_if (uses_badly k x) k (first_bad_use (k + 1) ops) h).0)
+    subst (λ (n : ℕ). uses_badly n op ≡ false) {x = k} (omega arith) (subst (λ (y : Op). uses_badly k y ≡ false) same (skip_if (uses_badly k x) k (bad_use_from (k + 1) ops) h).0)
 no_bad_use_at k (x ∷ ops) (suc i) op h e =
-    subst (λ (n : ℕ). uses_badly n op ≡ false) {x = (k + 1) + i} (omega arith) (no_bad_use_at (k + 1) ops i op (skip_if (uses_badly k x) k (first_bad_use (k + 1) ops) h).1 e)
+    subst (λ (n : ℕ). uses_badly n op ≡ false) {x = (k + 1) + i} (omega arith) (no_bad_use_at (k + 1) ops i op (skip_if (uses_badly k x) k (bad_use_from (k + 1) ops) h).1 e)
 
 needs_before : (r : Bool) (k : ℕ) (ns : List Need) → list_any (λ n. r || not (nat_lt n.from k)) ns ≡ false → AllByRecursion (λ n. n.from < k) ns
 needs_before r k [] h = tt
@@ -74,7 +75,7 @@ needs_before r k (n ∷ ns) h =
 -- the needs of a sound script's operation name earlier ones
 pub sound_needs : (ops : List Op) (i : ℕ) (op : Op) → script_fault ops ≡ None → slice_get ops i ≡ Some op → AllByRecursion (λ n. n.from < i) (needs_list op.needs)
 sound_needs ops i op h e =
-    needs_before (is_read op.act) i (needs_list op.needs) (subst (λ (n : ℕ). uses_badly n op ≡ false) {x = 0 + i} (omega arith) (no_bad_use_at 0 ops i op (sound_uses ops h) e))
+    needs_before (is_read op.act) i (needs_list op.needs) (subst (λ (n : ℕ). uses_badly n op ≡ false) {x = 0 + i} (omega arith) (no_bad_use_at 0 ops i op (first_bad_use_counted ops ∙ sound_uses ops h) e))
 
 -- needs of earlier operations read the pairs before alone
 pub needed-take : (ns : List Need) (i : ℕ) (done : List Pair) → AllByRecursion (λ n. n.from < i) ns → needed ns (take i done) ≡ needed ns done
@@ -128,8 +129,8 @@ below_more_room i n le (k ∷ ns) h = (omega (arith, h.0), below_more_room i n l
 pub sound_length : (ops : List Op) → script_fault ops ≡ None → length ops ≤ 16
 unfolding script_fault
 sound_length ops h =
-    let uses = first_of (first_bad_use 0 ops) BadUse None in
-    let repeats = first_of (first_repeat [] ops) TupleTwice uses in
+    let uses = first_of (first_bad_use ops) BadUse None in
+    let repeats = first_of (first_repeat ops) TupleTwice uses in
     let size = if nat_lt 16 (length ops) then Some (TooLong (length ops)) else repeats in
     let few = (skip_if (nat_lt 16 (length ops)) (TooLong (length ops)) repeats (skip_if (length ops == 0) Empty size h).1).0 in
     not_above 16 (length ops) few

@@ -5,3 +5,4 @@ pub mod Tuples
 pub mod Places
 pub mod Serial
 pub mod ScriptCheck
+pub mod Local

@@ -5,6 +5,7 @@
 #![tactic(auto)]
 
 mod items;
+mod laws;
 mod number;
 mod op;
 mod pairs;
@@ -15,6 +16,7 @@ mod stamp;
 mod tuple_map;
 
 pub use items::{Items, NoMemory};
+pub use laws::wraps_around;
 pub use number::{minus, plus};
 pub use op::{Act, Need, Needs, Op, TupleId, Which};
 pub use pairs::{Pair, Pairs};

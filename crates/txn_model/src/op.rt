@@ -23,9 +23,13 @@ pub struct Need {
     pub which: Which,
 }
 
-/// A list of at most four needs. Each list has one form, so that equal lists are equal values.
+/// A list of at most four needs. Equal lists are equal values.
 #[derive(Clone, Copy, Debug, PartialEq, Eq)]
-pub enum Needs {
+pub struct Needs(Form);
+
+/// Each list of needs has one form.
+#[derive(Clone, Copy, Debug, PartialEq, Eq)]
+enum Form {
     Zero,
     One(Need),
     Two(Need, Need),
@@ -40,7 +44,22 @@ impl Needs {
     pub fn none() -> Needs
         ensures { needs_list result ≡ [] }
     {
-        Needs::Zero
+        Needs(Form::Zero)
+    }
+
+    /// These needs, in their order.
+    pub fn of(list: &[Need]) -> Needs
+        requires { length list.now ≤ 4 }
+        ensures { needs_list result ≡ list.now }
+    {
+        Needs(match *list {
+            [] => Form::Zero,
+            [a] => Form::One(a),
+            [a, b] => Form::Two(a, b),
+            [a, b, c] => Form::Three(a, b, c),
+            [a, b, c, d] => Form::Four(a, b, c, d),
+            _ => unreachable!(),
+        })
     }
 
     /// Adds one need at the end.
@@ -48,12 +67,12 @@ impl Needs {
         requires { length (needs_list self.old) < 4 }
         ensures { needs_list self.new ≡ needs_list self.old ++ need ∷ [] }
     {
-        *self = match *self {
-            Needs::Zero => Needs::One(need),
-            Needs::One(a) => Needs::Two(a, need),
-            Needs::Two(a, b) => Needs::Three(a, b, need),
-            Needs::Three(a, b, c) => Needs::Four(a, b, c, need),
-            Needs::Four(..) => unreachable!(),
+        self.0 = match self.0 {
+            Form::Zero => Form::One(need),
+            Form::One(a) => Form::Two(a, need),
+            Form::Two(a, b) => Form::Three(a, b, need),
+            Form::Three(a, b, c) => Form::Four(a, b, c, need),
+            Form::Four(..) => unreachable!(),
         };
     }
 
@@ -62,12 +81,12 @@ impl Needs {
         ensures value { result ≡ length (needs_list self.now) }
         ensures bound { result ≤ 4 }
     {
-        match self {
-            Needs::Zero => 0,
-            Needs::One(..) => 1,
-            Needs::Two(..) => 2,
-            Needs::Three(..) => 3,
-            Needs::Four(..) => 4,
+        match self.0 {
+            Form::Zero => 0,
+            Form::One(..) => 1,
+            Form::Two(..) => 2,
+            Form::Three(..) => 3,
+            Form::Four(..) => 4,
         }
     }
 
@@ -75,7 +94,7 @@ impl Needs {
     pub fn is_empty(&self) -> bool
         ensures { IsTrue result ↔ (needs_list self.now ≡ []) }
     {
-        matches!(self, Needs::Zero)
+        matches!(self.0, Form::Zero)
     }
 
     /// The need at a place, counted from 0.
@@ -83,14 +102,12 @@ impl Needs {
         requires { i < length (needs_list self.now) }
         ensures { slice_get (needs_list self.now) i ≡ Some result }
     {
-        match (*self, i) {
-            (
-                Needs::One(a) | Needs::Two(a, _) | Needs::Three(a, _, _) | Needs::Four(a, _, _, _),
-                0,
-            ) => a,
-            (Needs::Two(_, b) | Needs::Three(_, b, _) | Needs::Four(_, b, _, _), 1) => b,
-            (Needs::Three(_, _, c) | Needs::Four(_, _, c, _), 2) => c,
-            (Needs::Four(_, _, _, d), 3) => d,
+        match (self.0, i) {
+            (Form::One(a) | Form::Two(a, _) | Form::Three(a, _, _) | Form::Four(a, _, _, _), 0) =>
+                a,
+            (Form::Two(_, b) | Form::Three(_, b, _) | Form::Four(_, b, _, _), 1) => b,
+            (Form::Three(_, _, c) | Form::Four(_, _, c, _), 2) => c,
+            (Form::Four(_, _, _, d), 3) => d,
             _ => unreachable!(),
         }
     }

@@ -39,7 +39,7 @@ impl Model for Pairs {
 impl Pairs {
     /// As many pairs of zeros.
     pub fn zeros(alloc: Global, len: u8) -> Result<Pairs, NoMemory>
-        ensures { IfOk result (λ pairs. pairs.items ≡ replicate len Pair.ZERO) }
+        ensures { IfOk result (λ pairs. pairs.items ≡ replicate len (record { was = pos 0; now = pos 0 })) }
     {
         Ok(Pairs {
             rows: vec![in alloc; Pair::ZERO; len as usize]?,

@@ -1,6 +1,6 @@
 //! Scripts, and what makes one unfit to run.
 
-ghost use Rattle.std.specs.Prelude.{◌≡◌, ◌≤◌, [], length};
+ghost use Rattle.std.specs.Prelude.{◌≡◌, ◌<◌, ◌≤◌, length, slice_get, Some};
 ghost use Rattle.std.specs.Result.{result_err};
 ghost use Rattle.txn_model.specs.ScriptCheck.{names, uses_badly, first_repeat, first_bad_use, script_fault};
 
@@ -27,6 +27,14 @@ pub enum ScriptFault {
 }
 
 impl Items<Op> {
+    /// The operation at a place, counted from 0.
+    pub fn op(&self, i: u8) -> Op
+        requires { i < length self.now.items }
+        ensures { slice_get self.now.items i ≡ Some result }
+    {
+        *self.get(i as usize)
+    }
+
     /// What is wrong with the script: the first fault in the order of `ScriptFault`.
     #[tactic(auto, unfolding(crate::specs::ScriptCheck::script_fault))]
     pub fn check(&self) -> Result<(), ScriptFault>
@@ -55,9 +63,10 @@ fn names(ops: &[Op], tuple: TupleId) -> bool
     ops.iter().any(|op| op.tuple.0 == tuple.0)
 }
 
+#[tactic(auto, using(crate::proofs::FirstPlaces::first_counted))]
 fn first_repeat(ops: &[Op]) -> Option<u8>
-    requires { length ops.now ≤ MOST_OPS }
-    ensures { result ≡ first_repeat [] ops.now }
+    requires { length ops.now ≤ 16 }
+    ensures { result ≡ first_repeat ops.now }
 {
     for (i, op) in ops.iter().enumerate() {
         if names(&ops[..i], op.tuple) {
@@ -79,9 +88,10 @@ fn uses_badly(number: u8, op: &Op) -> bool
     false
 }
 
+#[tactic(auto, using(crate::proofs::FirstPlaces::first_counted))]
 fn first_bad_use(ops: &[Op]) -> Option<u8>
-    requires { length ops.now ≤ MOST_OPS }
-    ensures { result ≡ first_bad_use 0 ops.now }
+    requires { length ops.now ≤ 16 }
+    ensures { result ≡ first_bad_use ops.now }
 {
     for (i, op) in ops.iter().enumerate() {
         if uses_badly(i as u8, op) {

@@ -68,7 +68,7 @@ pub fn run_serial(script: &Script, map: &mut TupleMap, out: &mut Pairs)
     ensures spare { out.new.spare ≡ out.old.spare }
 {
     for i in 0..out.len() {
-        let op = *script.get(i as usize);
+        let op = script.op(i);
         let was = map.get(op.tuple).unwrap_or(0);
         let now = effect(&op.act, was, operand(&op.needs, 0, out));
         map.set(op.tuple, now);

@@ -11,7 +11,7 @@ fn op(tuple: u32, act: Act, needs: Needs) -> Op {
 }
 
 fn one(from: u8, which: Which) -> Needs {
-    Needs::One(Need { from, which })
+    Needs::of(&[Need { from, which }])
 }
 
 fn script(alloc: Global, ops: &[Op]) -> Result<Script, AllocError> {
@@ -48,7 +48,7 @@ fn acts_leave_these_values(rt: HostRuntime) {
 
 #[test]
 fn scripts_have_these_faults(rt: HostRuntime) -> Result<(), Fail> {
-    let add = |tuple| op(tuple, Act::Add { base: 1 }, Needs::Zero);
+    let add = |tuple| op(tuple, Act::Add { base: 1 }, Needs::none());
     let later = op(1, Act::Add { base: 1 }, one(1, Which::Old));
     let read = op(1, Act::Read, one(0, Which::Moved));
     let none = script(rt.alloc(), &[])?;

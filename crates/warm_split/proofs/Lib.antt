@@ -1,2 +1,14 @@
 pub mod Bits
 pub mod Sets
+pub mod ScriptFits
+pub mod PacketNumbers
+pub mod NeedsOf
+pub mod KnownPairs
+pub mod Operands
+pub mod JoinedLaws
+pub mod FilledLaws
+pub mod Placing
+pub mod PackedLaws
+pub mod Distinct
+pub mod JoinSteps
+pub mod WarmSerial

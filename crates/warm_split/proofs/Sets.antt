@@ -1,11 +1,11 @@
 -- Sets of operation numbers against the parts that they stand for.
-use Rattle.std.proofs.Common.{◌≡◌, ℕ, zero, suc, Bool, true, false, cond, not, ◌&&◌, ◌||◌, eqb, List, [], ◌∷◌, ◌++◌, length, Option, Some, None, refl, sym, ap, ◌∙◌, arith}
+use Rattle.std.proofs.Common.{◌≡◌, ◌<◌, ℕ, zero, suc, Bool, true, false, cond, not, ◌&&◌, ◌||◌, eqb, List, [], ◌∷◌, ◌++◌, length, Option, Some, None, refl, sym, ap, ◌∙◌, arith}
 use Rattle.std.specs.List.{list_any}
 use Rattle.std.proofs.lemmas.Bool.Decides.{nat_tests}
 use Rattle.txn_model.specs.declared.op.Need.{Need}
 use Rattle.stage_layout.specs.Late.{Part, Before, Hot, Late, is_before, is_in_switch, is_after, part_at}
 use Rattle.warm_split.specs.OpSet.{contains}
-use Rattle.warm_split.specs.Parts.{passes_at, AreSets}
+use Rattle.warm_split.specs.Parts.{passes_at, AreSets, IsHotSet}
 use Rattle.warm_split.specs.declared.op_set.OpSet.{OpSet}
 use Rattle.warm_split.specs.declared.parts.Parts.{Parts}
 
@@ -24,6 +24,21 @@ passes_at-part_at : (test : Part → Bool) (parts : List Part) (k : ℕ) → tes
 passes_at-part_at test [] k e = sym e
 passes_at-part_at test (part ∷ parts) zero e = refl
 passes_at-part_at test (part ∷ parts) (suc k) e = passes_at-part_at test parts k e
+
+-- the sets by the parts of their operations
+pub hot_set : (parts : List Part) (sets : Parts) → AreSets parts sets → IsHotSet parts sets.hot
+hot_set parts sets sound k = sound.hot k ∙ passes_at-part_at is_in_switch parts k refl
+
+pub after_set : (parts : List Part) (sets : Parts) → AreSets parts sets → (k : ℕ) → contains sets.after k ≡ is_after (part_at parts k)
+after_set parts sets sound k = sound.after k ∙ passes_at-part_at is_after parts k refl
+
+pub before_set : (parts : List Part) (sets : Parts) (k : ℕ) → AreSets parts sets → k < length parts → contains sets.before k ≡ is_before (part_at parts k)
+before_set parts sets k sound lt = sound.before k ∙ inside parts k lt
+  where
+    inside : (ps : List Part) (j : ℕ) → j < length ps → passes_at is_before ps j ≡ is_before (part_at ps j)
+    inside [] j h = absurd (omega arith)
+    inside (p ∷ ps) zero h = refl
+    inside (p ∷ ps) (suc j) h = inside ps j (omega arith)
 
 same_any : {X : Type 0} (p q : X → Bool) (xs : List X) → ((x : X) → p x ≡ q x) → list_any p xs ≡ list_any q xs
 same_any p q [] h = refl
@@ -81,12 +96,11 @@ module _ (parts : List Part) (sets : Parts) (sound : AreSets parts sets) where
       after = kept is_after parts Before sets.after refl sound.after;
     }
 
--- an answer of one step is that of the whole search
-pub caught : (bad : Bool) (number len at : ℕ) (later : Option ℕ) → len ≡ number → Some at ≡ cond bad (Some number) None → Some at ≡ cond bad (Some len) later
-caught true number len at later same e = cc
-caught false number len at later same e = cc e
+-- a step answers its number exactly where it turns badly
+pub caught : (bad : Bool) (number at : ℕ) → Some at ≡ cond bad (Some number) None → (bad ≡ true) × (Some at ≡ Some number)
+caught true number at e = (refl, e)
+caught false number at e = cc e
 
--- a step without one leaves the rest of the search
-pub passed : (bad : Bool) (number len : ℕ) (later : Option ℕ) → None ≡ cond bad (Some number) None → cond bad (Some len) later ≡ later
-passed true number len later e = cc e
-passed false number len later e = refl
+pub passed : (bad : Bool) (number : ℕ) → None ≡ cond bad (Some number) None → bad ≡ false
+passed true number e = cc e
+passed false number e = refl

@@ -47,15 +47,15 @@ fn parts(before: u32, hot: u32, after: u32) -> Result<Parts, BadTurn> {
 fn scripts_have_these_parts(rt: HostRuntime) -> Result<(), Fail> {
     let alloc = rt.alloc();
     let layout = layout(alloc)?;
-    let none = Needs::Zero;
+    let none = Needs::none();
     let cases = [
         // The third operation needs a hot one by its second need; the fourth needs the third.
         (
             [
                 add(7, none),
                 add(0, none),
-                add(8, Needs::Two(need(0), need(1))),
-                add(9, Needs::One(need(2))),
+                add(8, Needs::of(&[need(0), need(1)])),
+                add(9, Needs::of(&[need(2)])),
             ],
             parts(0b0001, 0b0010, 0b1100),
         ),
@@ -63,9 +63,9 @@ fn scripts_have_these_parts(rt: HostRuntime) -> Result<(), Fail> {
         (
             [
                 add(7, none),
-                add(8, Needs::One(need(0))),
-                add(0, Needs::One(need(1))),
-                add(1, Needs::One(need(2))),
+                add(8, Needs::of(&[need(0)])),
+                add(0, Needs::of(&[need(1)])),
+                add(1, Needs::of(&[need(2)])),
             ],
             parts(0b0011, 0b1100, 0),
         ),
@@ -73,9 +73,9 @@ fn scripts_have_these_parts(rt: HostRuntime) -> Result<(), Fail> {
         (
             [
                 add(0, none),
-                add(7, Needs::One(need(0))),
+                add(7, Needs::of(&[need(0)])),
                 add(8, none),
-                add(1, Needs::Two(need(2), need(1))),
+                add(1, Needs::of(&[need(2), need(1)])),
             ],
             Err(BadTurn(3)),
         ),

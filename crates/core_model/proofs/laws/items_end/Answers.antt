@@ -1,4 +1,4 @@
-use Rattle.core_model.proofs.Legal.{items_end}
+use Rattle.core_model.proofs.ItemEnds.{items_end}
 use Rattle.core_model.proofs.laws.items_end.Goals as goal
 
 pub returns : goal.returns

@@ -20,5 +20,5 @@ pair_eq a b = (λ t. both (int_eq a.was b.was) (int_eq a.now b.now) t (Decides-i
 
 pub returns-in-Some : goal.returns-in-Some
 returns-in-Some c =
-    subst (λ (o : Option (List Pair)). IsTrue c.eq.result ↔ HasReply o c.args.pairs.now) (sym (sym c.pairs_of.ensures ∙ ap (option_map (λ pairs. pairs.now)) c.in-Some.is))
-    (slice_eq-Decides pair_eq c.in-Some.kept.now c.args.pairs.now c.eq.result c.eq.ensures)
+    subst (λ (o : Option (List Pair)). IsTrue c.eq.result ↔ HasReply o c.args.pairs.now) (sym (sym c.reply.ensures ∙ ap (option_map (λ pairs. pairs.now.items)) c.in-Some.is))
+    (subst (λ (xs : List Pair). Decides c.eq.result (xs ≡ c.args.pairs.now)) c.as_slice.ensures.items (slice_eq-Decides pair_eq c.as_slice.result.now c.args.pairs.now c.eq.result c.eq.ensures))

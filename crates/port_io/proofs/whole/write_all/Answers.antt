@@ -1,5 +1,6 @@
-use Rattle.std.proofs.Common.{arith}
+use Rattle.std.proofs.Common.{arith, ◌∙◌}
 use Rattle.std.proofs.lemmas.List.{length-take, length-drop}
+use Rattle.port_io.proofs.Causes.{ok_is_no_failure}
 use Rattle.port_io.proofs.Known.{Appends-front}
 use Rattle.port_io.proofs.whole.write_all.Goals as goal
 
@@ -10,5 +11,5 @@ loop-at-preserved g c =
     record {
       within = omega (arith, simp (length-take, length-drop) at wrote.bound);
       taken = Appends-front _ _ _ _ _ _ before.taken wrote.bytes;
-      later = omega (arith, wrote.cause.later);
+      still = wrote.cause.still (ok_is_no_failure _ _) ∙ before.still;
     }

@@ -1,13 +1,13 @@
-use Rattle.std.proofs.Common.{◌-◌, ◌≤◌, length, take}
+use Rattle.std.proofs.Common.{◌≡◌, ◌-◌, ◌≤◌, length, take}
 use Rattle.std.specs.Io.KnownBytes.{Appends}
 use Rattle.port_io.proofs.whole.write_all.Given as goal
 
--- a front of the bytes was appended, and the count did not fall
+-- a front of the bytes was appended, and the count stands still
 abbrev pub invariant-loop-at : goal.invariant-loop-at
 invariant-loop-at g l = record {
   within : l.at ≤ length l.bytes;
   taken : Appends (g.K.Sink.content l.initial.sink) (g.K.Sink.content l.sink) (take l.at l.bytes);
-  later : g.K.Sink.faults l.initial.sink ≤ g.K.Sink.faults l.sink;
+  still : g.K.Sink.faults l.sink ≡ g.K.Sink.faults l.initial.sink;
 }
 
 abbrev pub decreases-loop-at : goal.decreases-loop-at

@@ -6,9 +6,9 @@ use Rattle.history_model.specs.History.{History}
 use Rattle.txn_model.specs.declared.pairs.Pair.{Pair}
 use Rattle.fabric_core.specs.Running.{state_in}
 use Rattle.report_text.specs.Report.{EndedItem, Committed}
-use Rattle.report_text.specs.RunReport.{with_end, last_refusal}
+use Rattle.report_text.specs.RunReport.{told_by, with_end, last_refusal}
 use Rattle.report_text.specs.Told.{Tells}
-use Rattle.report_text.proofs.ToldLaws.{script_item_told, told_by}
+use Rattle.report_text.proofs.ToldLaws.{script_item_told}
 use Rattle.report_text.proofs.reply.push_script.Goals as goal
 
 pub returns-in_ok-push_committed-in-Committed-clause-told :

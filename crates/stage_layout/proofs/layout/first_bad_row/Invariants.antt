@@ -1,7 +1,11 @@
-use Rattle.std.proofs.Common.{◌≡◌, drop}
-use Rattle.stage_layout.specs.Layout.{first_bad_row}
+use Rattle.std.proofs.Common.{◌≡◌, ℕ, ◌<◌, false, get_or}
+use Rattle.stage_layout.specs.declared.layout.LayoutRow.{LayoutRow}
+use Rattle.stage_layout.specs.Layout.{is_bad_row}
 use Rattle.stage_layout.proofs.layout.first_bad_row.Given as goal
+
+abbrev pub no_row : LayoutRow
+no_row = record { tuple = record { 0 = 0 }; place = record { stage = 0; array = 0; cell = 0 } }
 
 -- no row so far is a bad one
 abbrev pub invariant-loop-i : goal.invariant-loop-i
-invariant-loop-i l = first_bad_row l.shape l.tuples l.i (drop l.i l.rows) ≡ first_bad_row l.shape l.tuples 0 l.rows
+invariant-loop-i l = (k : ℕ) → k < l.i → is_bad_row l.shape l.tuples (get_or l.rows k no_row) ≡ false

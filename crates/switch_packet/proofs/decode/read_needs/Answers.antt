@@ -2,9 +2,9 @@ use Rattle.std.proofs.Common.{refl, arith}
 use Rattle.std.proofs.lemmas.List.{length_push}
 use Rattle.std.proofs.lemmas.Result.{err_from_is_err_and}
 use Rattle.txn_model.specs.Needs.{needs_list}
+use Rattle.txn_model.proofs.NeedsLaws.{needs_of-needs_list}
 use Rattle.switch_packet.specs.PacketReading.{need_at, needs_at}
 use Rattle.switch_packet.proofs.Loops.{each_more, each_fails, each_done}
-use Rattle.switch_packet.proofs.NeedsLaws.{needs_of-needs_list}
 use Rattle.switch_packet.proofs.decode.read_needs.Goals as goal
 
 pub returns-in_err-read_need : goal.returns-in_err-read_need

@@ -2,7 +2,6 @@ use Rattle.std.proofs.Common.{ap, arith}
 use Rattle.catalogue.specs.PlanOf.{plan_of}
 use Rattle.client_phase.specs.Shown.{PlainClient}
 use Rattle.core_model.specs.State.{client_at, script_now}
-use Rattle.core_model.proofs.SmallStamps.{fits_room}
 use Rattle.fabric_core.proofs.core_state.CoreState.decide.Goals as goal
 use Rattle.fabric_core.proofs.Decides as decides
 use Rattle.fabric_core.proofs.Present as present
@@ -29,14 +28,24 @@ decide-requires-clause-met c =
 pub insert-requires : goal.insert-requires
 insert-requires c =
     let plan = plan_of c.args.session.now in
-    let s = c.requires.0 in
     let core = c.args.self.now in
-    record { room = decides.entry_room plan core c.args.client c.requires.1 c.args.script.now.items s c.requires.2 (fits_room plan _ (decides.reached_next plan core c.args.client c.requires.1 c.args.script.now.items s c.requires.2)) }
+    let client = decides.client_after plan core c.args.client c.requires.1 c.args.script.now.items c.requires.0 c.requires.2 c.index_mut-state.result.now c.decide.new.self
+    (present.kept_is plan core c.args.client c.requires.1 c.requires.0 c.requires.2.turn _ c.index_mut-state.ensures.value) c.decide.ensures.client in
+    record {
+      transaction = decides.is_transaction plan core c.args.client c.requires.1 c.args.script.now.items c.requires.0 c.requires.2 c.decide.new.self client;
+      above = decides.is_above plan core c.args.client c.requires.1 c.args.script.now.items c.requires.0 c.requires.2 c.decide.new.self client;
+    }
 
 pub answer-requires : goal.answer-requires
 answer-requires c =
     let plan = plan_of c.args.session.now in
-    record { short = decides.reply_short plan c.args.self.now c.args.client c.requires.1 c.args.script.now.items c.requires.0 c.requires.2 c.decide.new.self (decides.client_after plan c.args.self.now c.args.client c.requires.1 c.args.script.now.items c.requires.0 c.requires.2 c.index_mut-state.result.now c.decide.new.self (present.kept_is plan c.args.self.now c.args.client c.requires.1 c.requires.0 c.requires.2.turn _ c.index_mut-state.ensures.value) c.decide.ensures.client) }
+    let core = c.args.self.now in
+    let client = decides.client_after plan core c.args.client c.requires.1 c.args.script.now.items c.requires.0 c.requires.2 c.index_mut-state.result.now c.decide.new.self
+    (present.kept_is plan core c.args.client c.requires.1 c.requires.0 c.requires.2.turn _ c.index_mut-state.ensures.value) c.decide.ensures.client in
+    record {
+      last = decides.is_last plan core c.args.client c.requires.1 c.args.script.now.items c.requires.0 c.requires.2 c.decide.new.self client c.insert.new.self c.insert.ensures;
+      pairs = decides.has_pairs plan core c.args.client c.requires.1 c.args.script.now.items c.requires.0 c.requires.2 c.decide.new.self client c.insert.new.self c.insert.ensures;
+    }
 
 pub returns : goal.returns
 returns c s at a =
@@ -45,7 +54,7 @@ returns c s at a =
     record {
       next = _;
       step = decides.moves_to plan core c.args.client at c.args.script.now.items s a;
-      stands = decides.stands plan core c.args.client at c.args.script.now.items s a c.decide.new.self c.answer.new.self c.insert.new.self (decides.client_after plan c.args.self.now c.args.client at c.args.script.now.items s a c.index_mut-state.result.now c.decide.new.self (present.kept_is plan c.args.self.now c.args.client at s a.turn _ c.index_mut-state.ensures.value) c.decide.ensures.client)
+      stands = decides.stands plan core c.args.client at c.args.script.now.items s a c.decide.new.self c.answer.new.self c.insert.new.self (decides.client_after plan core c.args.client at c.args.script.now.items s a c.index_mut-state.result.now c.decide.new.self (present.kept_is plan core c.args.client at s a.turn _ c.index_mut-state.ensures.value) c.decide.ensures.client)
           (omega (arith, c.decide.ensures.space, present.space_is plan core c.args.client at s a.turn _ c.index_mut-state.ensures.value))
-          c.insert.ensures.items c.insert.ensures.spare c.answer.ensures.items c.answer.ensures.spare;
+          c.insert.ensures c.answer.ensures;
     }

@@ -1,19 +1,24 @@
-use Rattle.std.proofs.Common.{sym, ap, ◌∙◌, arith}
-use Rattle.history_core.proofs.Kept.{length-kept, within, answered, unanswered}
+use Rattle.std.proofs.Common.{length, ap, arith}
+use Rattle.history_core.specs.Plain.{Own}
+use Rattle.history_core.proofs.Changes.{some_entry, short_reply, the_answering, answered_at}
 use Rattle.history_core.proofs.history.History.answer.Goals as goal
 
-pub index_mut-requires : goal.index_mut-requires
-index_mut-requires c =
-    let es = c.self.inside.entries.items in
-    let rs = c.self.inside.replies.items in
-    let view = ap (λ h. h.items) c.self.view_is in
-    omega (arith, within es rs c.self.invariant.same _ view c.args.client c.args.seq c.in-Some.at (sym c.find.ensures.place ∙ c.in-Some.is), length-kept es rs c.self.invariant.same _ view, c.self.invariant.same, c.self.inside.replies.ok.0)
+pub answer-requires-clause-some : goal.answer-requires-clause-some
+answer-requires-clause-some c =
+    let owns = c.self.inside.owns.items in
+    omega (
+      arith,
+      some_entry owns c.self.invariant _ c.self.view_is c.args.client c.args.seq c.args.pairs.now.items c.requires.last c.requires.pairs,
+      ap (λ (o : Own). length o.entries) (the_answering owns c.self.invariant _ c.self.view_is c.args.client c.args.seq c.args.pairs.now.items c.requires.last c.requires.pairs c.from.result c.index_mut-own.result.now c.from.ensures c.index_mut-own.ensures.value),
+    )
 
-pub returns-in-Some-clause-items : goal.returns-in-Some-clause-items
-returns-in-Some-clause-items c =
-    answered c.self.inside.entries.items c.self.inside.replies.items c.self.invariant.same _ (ap (λ h. h.items) c.self.view_is) c.args.client c.args.seq c.in-Some.at (sym c.find.ensures.place ∙ c.in-Some.is)
-    c.of.result c.args.pairs.now.items (c.of.ensures ∙ c.as_slice.ensures.items)
+pub answer-requires-clause-short : goal.answer-requires-clause-short
+answer-requires-clause-short c = short_reply c.self.inside.owns.items c.self.invariant _ c.self.view_is c.args.client c.args.seq c.args.pairs.now.items c.requires.last c.requires.pairs
 
-pub returns-in_default-clause-items : goal.returns-in_default-clause-items
-returns-in_default-clause-items c =
-    unanswered c.self.inside.entries.items c.self.inside.replies.items c.self.invariant.same _ (ap (λ h. h.items) c.self.view_is) c.args.client c.args.seq (sym c.find.ensures.place ∙ c.in_default.is) c.args.pairs.now.items
+pub invariant_of-self : goal.invariant_of-self
+invariant_of-self c =
+    (answered_at c.self.inside.owns.items c.self.invariant _ c.self.view_is c.args.client c.args.seq c.args.pairs.now.items c.requires.last c.requires.pairs c.from.result c.index_mut-own.result.now c.answer.new.self c.from.ensures c.index_mut-own.ensures.value c.answer.ensures).are
+
+pub returns : goal.returns
+returns c =
+    (answered_at c.self.inside.owns.items c.self.invariant _ c.self.view_is c.args.client c.args.seq c.args.pairs.now.items c.requires.last c.requires.pairs c.from.result c.index_mut-own.result.now c.answer.new.self c.from.ensures c.index_mut-own.ensures.value c.answer.ensures).view

@@ -1,16 +1,33 @@
-use Rattle.std.proofs.Common.{◌≡◌, length, arith}
-use Rattle.std.proofs.lemmas.Grind.{common_steps}
-use Rattle.history_core.specs.Answers.{answered_ones}
-use Rattle.history_core.specs.Entries.{plain_entries}
-use Rattle.history_core.proofs.Ordered.{sorted-answered}
+use Rattle.std.proofs.Common.{◌≡◌, List, ◌++◌, take, drop, map, length, get_or, set, sym, ap, subst, ◌∙◌, arith}
+use Rattle.history_core.specs.Merge.{AreOwn, all_entries, all_runs}
+use Rattle.history_core.specs.Own.{dropped}
+use Rattle.history_core.specs.Plain.{Own}
+use Rattle.history_core.specs.Recorded.{Recorded}
+use Rattle.history_core.proofs.Changes.{recorded, drop_next, drop_all, are_dropped}
 use Rattle.history_core.proofs.history.History.drop_unanswered.Goals as goal
 
 pub invariant_of-self : goal.invariant_of-self
 invariant_of-self c =
-    let es = c.self.inside.entries.items in
-    let rs = c.self.inside.replies.items in
-    let later = c.truncate.new.self.items in
-    let replies = c.truncate-2.new.self.items in
-    let same : length later ≡ length replies = grind (arith, common_steps) in
-    let is : plain_entries later replies ≡ answered_ones (plain_entries es rs) = grind (arith, common_steps) in
-    record { same = same; sorted = sorted-answered es later rs replies c.self.invariant.same same is c.self.invariant.sorted }
+    let owns = c.self.inside.owns.items in
+    let later = c.loop-own.own-items in
+    let all : take c.self.inside.owns.len (later ++ drop (length later) owns) ≡ map dropped owns =
+    drop_all owns later c.self.inside.owns.len c.loop-own.own-index (c.loop-own.invariant ∙ ap (λ (l : List Own). map dropped (take c.loop-own.own-index l) ++ drop c.loop-own.own-index l) c.deref_mut-own-items.ensures.value)
+    (omega (arith, c.loop-own-test.false, ap length c.deref_mut-own-items.ensures.value, c.loop-own.auto.own-items)) (omega (arith, c.self.inside.owns.ok.0)) (omega (arith, c.loop-own.auto.own-items, ap length c.deref_mut-own-items.ensures.value)) in
+    subst AreOwn (sym all) (are_dropped owns c.self.invariant _ c.self.view_is c.requires).are
+
+pub loop-own-preserved : goal.loop-own-preserved
+loop-own-preserved c =
+    let init = c.deref_mut-own-items.result.now in
+    let i = c.loop-own.own-index in
+    let x = c.own-item.result in
+    ap (λ (l : List Own). set l i c.drop_open.new.self) c.loop-own.invariant
+    ∙ drop_next init i x c.drop_open.new.self (omega (arith, c.loop-own-test.true, c.loop-own.auto.own-items)) (c.own-item.is ∙ ap (λ (l : List Own). get_or l i x) c.loop-own.invariant) (c.drop_open.ensures ∙ ap dropped (sym c.own-item.is))
+
+pub returns : goal.returns
+returns c =
+    let owns = c.self.inside.owns.items in
+    let later = c.loop-own.own-items in
+    let all : take c.self.inside.owns.len (later ++ drop (length later) owns) ≡ map dropped owns =
+    drop_all owns later c.self.inside.owns.len c.loop-own.own-index (c.loop-own.invariant ∙ ap (λ (l : List Own). map dropped (take c.loop-own.own-index l) ++ drop c.loop-own.own-index l) c.deref_mut-own-items.ensures.value)
+    (omega (arith, c.loop-own-test.false, ap length c.deref_mut-own-items.ensures.value, c.loop-own.auto.own-items)) (omega (arith, c.self.inside.owns.ok.0)) (omega (arith, c.loop-own.auto.own-items, ap length c.deref_mut-own-items.ensures.value)) in
+    ap recorded all ∙ (are_dropped owns c.self.invariant _ c.self.view_is c.requires).view

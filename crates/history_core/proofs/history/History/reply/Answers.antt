@@ -1,19 +1,16 @@
-use Rattle.std.proofs.Common.{sym, ap, ◌∙◌, arith}
-use Rattle.history_core.proofs.Kept.{length-kept, within, reply_there, reply_missing}
+use Rattle.std.proofs.Common.{◌≡◌, Option, List, option_map, option_and_then, Bor, sym, ap, ◌∙◌}
+use Rattle.txn_model.specs.Listed.{Listed}
+use Rattle.txn_model.specs.declared.pairs.Pair.{Pair}
+use Rattle.history_model.specs.History.{HistoryEntry}
+use Rattle.history_core.proofs.Merged.{reply_of-entry}
 use Rattle.history_core.proofs.history.History.reply.Goals as goal
 
-pub index-requires : goal.index-requires
-index-requires c =
-    let es = c.self.inside.entries.items in
-    let rs = c.self.inside.replies.items in
-    let view = ap (λ h. h.items) c.self.view_is in
-    omega (arith, within es rs c.self.invariant.same _ view c.args.client c.args.seq c.in-Some.at (sym c.find.ensures.place ∙ c.in-Some.is), length-kept es rs c.self.invariant.same _ view, c.self.invariant.same, c.self.inside.replies.ok.0)
+pub returns-in_err-kept : goal.returns-in_err-kept
+returns-in_err-kept c =
+    ap (option_map (λ (pairs : Bor (Listed Pair)). pairs.now.items)) c.from_residual.ensures
+    ∙ sym (reply_of-entry c.args.client c.args.seq c.args.self.now.items ∙ ap (option_and_then (λ (e : HistoryEntry). e.pairs)) (sym c.in_err-kept.ensures))
 
-pub returns-in-Some : goal.returns-in-Some
-returns-in-Some c =
-    c.pairs_of.ensures
-    ∙ reply_there c.self.inside.entries.items c.self.inside.replies.items c.self.invariant.same _ (ap (λ h. h.items) c.self.view_is) c.args.client c.args.seq c.in-Some.at (sym c.find.ensures.place ∙ c.in-Some.is) c.index.result.now c.index.ensures
-
-pub returns-in-None : goal.returns-in-None
-returns-in-None c =
-    reply_missing c.self.inside.entries.items c.self.inside.replies.items c.self.invariant.same _ (ap (λ h. h.items) c.self.view_is) c.args.client c.args.seq (sym c.find.ensures.place ∙ c.in-None.is)
+pub returns : goal.returns
+returns c =
+    c.reply.ensures
+    ∙ sym (reply_of-entry c.args.client c.args.seq c.args.self.now.items ∙ ap (option_and_then (λ (e : HistoryEntry). e.pairs)) (sym c.in_ok-kept.ensures))

@@ -1,8 +1,0 @@
-use Rattle.canonical_text.specs.Canonical.{canonical}
-use Rattle.canonical_text.proofs.SessionBack.{session_back}
-use Rattle.canonical_text.proofs.SessionJson.{canonical_read}
-use Rattle.canonical_text.proofs.WholeReadsBack.{draft_read}
-use Rattle.canonical_text.proofs.laws.sessions_read_back.Goals as goal
-
-pub returns : goal.returns
-returns c = λ plan sound typed. session_back plan (canonical plan) sound (draft_read plan (canonical plan) (canonical_read plan sound typed) sound typed)

@@ -1,9 +1,0 @@
--- The canonical text of a session.
-use Rattle.std.specs.Prelude.{ℕ, List}
-use Rattle.serde_json.specs.Written.{compact_text}
-use Rattle.catalogue.specs.Plan.{Plan}
-use Rattle.canonical_text.specs.SessionData.{data_of}
-
--- the text of a session without blanks, with all keys in the order of their bytes
-unfoldable pub canonical : Plan → List ℕ
-canonical plan = compact_text (data_of plan)
