@@ -1,0 +1,14 @@
+pub mod Tests
+pub mod Before
+pub mod Facts
+pub mod Positions
+pub mod Values
+pub mod Moves
+pub mod Starts
+pub mod Kept
+pub mod Replayed
+pub mod HeldInTurn
+pub mod LeftBehind
+pub mod NotStuck
+pub mod Lessens
+pub mod Effects
