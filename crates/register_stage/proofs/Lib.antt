@@ -1,0 +1,2 @@
+pub mod FullMap
+pub mod Steps

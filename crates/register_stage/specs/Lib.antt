@@ -1,0 +1,3 @@
+pub mod Registers
+pub mod Flat
+pub mod Visits
