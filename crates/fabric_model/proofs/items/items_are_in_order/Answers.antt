@@ -1,0 +1,6 @@
+use Rattle.fabric_model.proofs.InOrder.{items_in_order}
+use Rattle.fabric_model.proofs.Legal.{holds}
+use Rattle.fabric_model.proofs.items.items_are_in_order.Goals as goal
+
+pub returns : goal.returns
+returns c plan s reached = items_in_order plan (holds plan) s reached

@@ -1,0 +1,14 @@
+pub mod State
+pub mod Intents
+pub mod Step
+pub mod Run
+pub mod Bound
+pub mod Rota
+pub mod Driven
+pub mod Asking
+pub mod Ends
+pub mod Laws
+pub mod ColdFacts
+pub mod Carried
+pub mod Holds
+pub mod Fits

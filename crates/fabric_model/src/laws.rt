@@ -1,0 +1,29 @@
+//! Laws on the order in which transactions in the switch, on hosts, and on both stand.
+//!
+//! They speak of every state that some moves make of the opening of a sound session, in whatever order its
+//! actors move (Jasny et al., P4DB, SIGMOD 2022).
+
+ghost use Rattle.catalogue.specs.Plan.{Plan};
+ghost use Rattle.catalogue.specs.Sound.{IsSound};
+ghost use Rattle.fabric_model.specs.Fits.{PacketsFit};
+ghost use Rattle.fabric_model.specs.Laws.{IsReached, HasLegalHistory, AllFinished, HasSerialValues};
+ghost use Rattle.fabric_model.specs.State.{State};
+
+/// The packet of each transaction with an operation in the switch fits the switch: its passes and stages are
+/// there, what an operation needs is executed before it, and no two operations are on one register.
+pub fn packets_fit()
+    ensures { (plan : Plan) → IsSound plan → PacketsFit plan }
+{}
+
+/// Whichever actors move, and whenever: the history is in stamp order and legal. Transactions in the switch,
+/// on hosts and on both stand in one order, and running the scripts of all entries one after another in that
+/// order gives each answered one exactly its reply.
+pub fn histories_are_legal()
+    ensures { (plan : Plan) (s : State) → IsReached plan s → HasLegalHistory plan s }
+{}
+
+/// When all clients have finished, each entry is answered, and the values in the registers and on the hosts
+/// are those that this serial run leaves.
+pub fn values_are_serial()
+    ensures { (plan : Plan) (s : State) → IsReached plan s → AllFinished s → HasSerialValues plan s }
+{}

@@ -1,0 +1,22 @@
+//! The whole fabric as a machine: clients, the switch and the hosts, the step of each actor, and laws over
+//! runs.
+//!
+//! Definitions and laws alone: transactions in the switch, on hosts, and on both stand in one order. A
+//! client with operations in the switch locks its tuples on hosts first, writes what it is about to do into
+//! its log, and posts one packet; the packet's number is its stamp, and the answer fixes its reply. Every
+//! move is one event; a run is the fold of the step over a list of actors. The switch is not lost in it yet:
+//! a client at an item that loses the switch does not move, and recovery makes no move.
+#![tactic(auto)]
+
+mod items;
+mod laws;
+mod rounds;
+
+pub use items::{
+    answered_entries_stand, hot_ones_are_never_refused, items_are_in_order, items_end,
+    refusals_are_true,
+};
+pub use laws::{histories_are_legal, packets_fit, values_are_serial};
+pub use rounds::{
+    bounds_are_small, driven_runs_finish, moves_are_bounded, rounds_make_a_run, someone_can_move,
+};
