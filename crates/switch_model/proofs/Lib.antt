@@ -12,3 +12,4 @@ pub mod LeftBehind
 pub mod NotStuck
 pub mod Lessens
 pub mod Effects
+pub mod InOrder

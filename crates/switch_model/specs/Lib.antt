@@ -4,4 +4,5 @@ pub mod Event
 pub mod Fitting
 pub mod Reached
 pub mod Executed
+pub mod Order
 pub mod Laws

@@ -17,6 +17,7 @@ ghost use Rattle.switch_model.specs.Laws.{
   SlotsHoldOnePacket,
   SwitchesGoOn,
 };
+ghost use Rattle.switch_model.specs.Order.{OrdersAreReplays};
 
 /// Each answer is that of a packet of its client, and has the pairs that this packet has when all packets
 /// that have entered are executed whole, one after another in the order of their numbers.
@@ -72,4 +73,10 @@ pub fn regions_are_shared()
 /// packets' numbers, and the register has what the last one left.
 pub fn registers_are_left()
     ensures { RegistersAreLeft }
+{}
+
+/// The operations of a packet that fits, taken by pass, then by stage, then in script order, each on its
+/// place, give the pairs and the map of its replay, which takes them in script order alone.
+pub fn orders_are_replays()
+    ensures { OrdersAreReplays }
 {}

@@ -9,7 +9,7 @@
 mod laws;
 
 pub use laws::{
-    answers_are_replayed, first_passes_keep_order, packets_come_through, regions_are_held_in_turn,
-    regions_are_shared, registers_are_left, registers_are_replayed, slots_hold_one_packet,
-    switches_go_on,
+    answers_are_replayed, first_passes_keep_order, orders_are_replays, packets_come_through,
+    regions_are_held_in_turn, regions_are_shared, registers_are_left, registers_are_replayed,
+    slots_hold_one_packet, switches_go_on,
 };

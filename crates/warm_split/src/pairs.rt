@@ -9,7 +9,7 @@ ghost use Rattle.warm_split.specs.Filled.{executed, AreExecuted};
 ghost use Rattle.warm_split.specs.Joined.{joined};
 ghost use Rattle.warm_split.specs.OpSet.{contains, members};
 ghost use Rattle.warm_split.specs.Parts.{IsParts};
-ghost use Rattle.warm_split.specs.Sides.{IsOneVisit, hot_ops, found_values};
+ghost use Rattle.warm_split.specs.Sides.{IsOneVisit, found_values};
 
 use crate::op_set::OpSet;
 use crate::parts::Parts;
@@ -75,13 +75,17 @@ pub fn fill_before(script: &Script, parts: &Parts, pairs: &mut Pairs)
 
 /// Puts the pairs of the hot operations into the script's, and then executes the late ones: the pairs
 /// become the reply. The operations before the switch have been executed. It takes no memory.
+///
+/// For every layout in which the script touches each tuple once and has these parts, the reply is the join of
+/// what its operations on hosts found and of the hot pairs.
 pub fn join_pairs(script: &Script, parts: &Parts, hot: &Pairs, pairs: &mut Pairs)
-    ghost rows: { List LayoutRow }
-    requires visit { IsOneVisit rows script.now.items }
-    requires sets { IsParts rows script.now.items parts.now }
-    requires hot { length hot.now.items ≡ length (hot_ops rows script.now.items) }
+    requires fit { script_fault script.now.items ≡ None }
+    requires hot { length hot.now.items ≡ members parts.now.hot (length script.now.items) }
     requires filled { AreExecuted parts.now.before script.now.items pairs.old.items }
-    ensures items { pairs.new.items ≡ joined rows script.now.items (found_values rows script.now.items pairs.old.items) hot.now.items }
+    ensures items {
+      (rows : List LayoutRow) → IsOneVisit rows script.now.items → IsParts rows script.now.items parts.now
+          → pairs.new.items ≡ joined rows script.now.items (found_values rows script.now.items pairs.old.items) hot.now.items
+    }
     ensures spare { pairs.new.spare ≡ pairs.old.spare }
 {
     place(parts.hot, hot, pairs);
