@@ -82,10 +82,8 @@ pub fn join_pairs(script: &Script, parts: &Parts, hot: &Pairs, pairs: &mut Pairs
     requires fit { script_fault script.now.items ≡ None }
     requires hot { length hot.now.items ≡ members parts.now.hot (length script.now.items) }
     requires filled { AreExecuted parts.now.before script.now.items pairs.old.items }
-    ensures items {
-      (rows : List LayoutRow) → IsOneVisit rows script.now.items → IsParts rows script.now.items parts.now
-          → pairs.new.items ≡ joined rows script.now.items (found_values rows script.now.items pairs.old.items) hot.now.items
-    }
+    ensures items { (rows : List LayoutRow) → IsOneVisit rows script.now.items → IsParts rows script.now.items parts.now
+        → pairs.new.items ≡ joined rows script.now.items (found_values rows script.now.items pairs.old.items) hot.now.items }
     ensures spare { pairs.new.spare ≡ pairs.old.spare }
 {
     place(parts.hot, hot, pairs);

@@ -5,7 +5,7 @@ use super::*;
 use stage_layout::{Layout, LayoutRow};
 use std::alloc::Global;
 use std::test::Fail;
-use txn_model::{Act, Need, Needs, NoMemory, Op, Place, Script, TupleId, Which};
+use txn_model::{Act, Need, Needs, NoMemory, Op, Pair, Pairs, Place, Script, TupleId, Which};
 
 fn add(tuple: u32, needs: Needs) -> Op {
     Op {
@@ -87,5 +87,43 @@ fn scripts_have_these_parts(rt: HostRuntime) -> Result<(), Fail> {
         }
         assert_eq!(rt; script.check(), Ok(()));
     }
+    Ok(())
+}
+
+/// A value that an operation on a host found, before it is executed.
+fn found(was: i64) -> Pair {
+    Pair { was, now: 0 }
+}
+
+#[test]
+fn replies_join_both_sides(rt: HostRuntime) -> Result<(), Fail> {
+    let alloc = rt.alloc();
+    let none = Needs::none();
+    let ops = [
+        add(7, none),
+        add(0, none),
+        add(8, Needs::of(&[need(0), need(1)])),
+        add(9, Needs::of(&[need(2)])),
+    ];
+    let script = Script::of(Vec::from_slice(alloc, ops.as_slice())?);
+    let parts = Parts {
+        before: OpSet(0b0001),
+        hot: OpSet(0b0010),
+        after: OpSet(0b1100),
+    };
+    let hot = Pairs::of(vec![in alloc; Pair { was: 5, now: 6 }]?);
+    let mut pairs = Pairs::of(vec![in alloc; found(10), found(0), found(30), found(40)]?);
+    // The third operation needs the first one and the hot one, and the fourth the third.
+    let want = [
+        Pair { was: 10, now: 11 },
+        Pair { was: 5, now: 6 },
+        Pair { was: 30, now: 46 },
+        Pair { was: 40, now: 71 },
+    ];
+    if script.check().is_ok() {
+        fill_before(&script, &parts, &mut pairs);
+        join_pairs(&script, &parts, &hot, &mut pairs);
+    }
+    assert_eq!(rt; pairs.as_slice(), want.as_slice());
     Ok(())
 }
