@@ -1,45 +1,55 @@
 -- The packets of a sound session fit its switch.
-use Rattle.std.proofs.Common.{◌≡◌, ℕ, ℤ, zero, suc, ◌+◌, ◌<◌, ◌≤◌, ◌==◌, ◌&&◌, ◌||◌, not, nat_lt, Bool, true, false, List, [], ◌∷◌, map, length, get_or, slice_get, unwrap_or, is_some, Option, Some, None, refl, sym, ap, subst, ◌∙◌, arith, if◌then◌else◌}
+use Rattle.std.proofs.Common.{◌≡◌, ℕ, ℤ, pos, zero, suc, ◌+◌, ◌-◌, ◌^◌, ◌<◌, ◌≤◌, ◌==◌, ◌&&◌, ◌||◌, not, nat_lt, Bool, true, false, List, [], ◌∷◌, map, length, get_or, slice_get, unwrap_or, is_some, Option, Some, None, IsTrue, FitsSigned, rules, refl, sym, ap, subst, ◌∙◌, arith, if◌then◌else◌}
 use Rattle.std.specs.FinMap as fin
+use Rattle.std.specs.Int.{w64}
 use Rattle.std.specs.List.{AllByRecursion, list_any, zip}
+use Rattle.std.specs.Option.{option_and_then}
+use Rattle.std.proofs.lemmas.Int.{int_wrap_fits}
+use Rattle.std.proofs.lemmas.Option.{get_or_from_slice_get, slice_get_within}
 use Rattle.std.proofs.lemmas.Bool.{and_parts, ltb-true}
 use Rattle.std.proofs.lemmas.Bool.Decides.{nat_tests}
 use Rattle.std.proofs.lemmas.List.{length-map}
 use Rattle.std.proofs.lemmas.List.Elements.{recursion_from_All}
-use Rattle.txn_model.specs.Needs.{needs_list}
-use Rattle.txn_model.specs.ScriptCheck.{names}
+use Rattle.txn_model.specs.Needs.{needs_list, needs_of}
+use Rattle.txn_model.specs.ScriptCheck.{names, is_read, uses_badly, script_fault}
+use Rattle.txn_model.specs.Serial.{operand}
 use Rattle.txn_model.specs.Tuples.{Tuples}
 use Rattle.txn_model.specs.declared.op.Need.{Need}
 use Rattle.txn_model.specs.declared.op.Op.{Op}
 use Rattle.txn_model.specs.declared.op.TupleId.{TupleId}
 use Rattle.txn_model.specs.declared.pairs.Pair.{Pair}
 use Rattle.txn_model.specs.declared.place.Place.{Place}
-use Rattle.txn_model.proofs.SerialLaws.{item_of_all}
+use Rattle.txn_model.proofs.SerialLaws.{item_of_all, sound_uses}
 use Rattle.stage_layout.specs.Late.{Part, is_hot, parts_of}
 use Rattle.stage_layout.specs.Layout.{same_tuple, place_of, is_bad_row, first_bad_row, first_repeat, first_of, layout_fault}
 use Rattle.stage_layout.specs.Passes.{step_at, steps_of, plan_of, greatest, ComesBefore, NeedsBelow, NeedEarlier}
-use Rattle.stage_layout.specs.Shape.{has_place}
+use Rattle.stage_layout.specs.Regions.{touches, halves_of}
+use Rattle.stage_layout.specs.Shape.{has_place, IsShape}
 use Rattle.stage_layout.specs.declared.layout.LayoutFault.TheVariants.{BadPlace, PlaceTwice}
 use Rattle.stage_layout.specs.declared.layout.LayoutRow.{LayoutRow}
 use Rattle.stage_layout.specs.declared.pass_plan.HotOp.{HotOp}
 use Rattle.stage_layout.specs.declared.pass_plan.Step.{Step}
 use Rattle.stage_layout.specs.declared.shape.Shape.{Shape}
 use Rattle.stage_layout.proofs.LeastPasses.{least_of, steps_are_in_order, has_passes}
-use Rattle.stage_layout.proofs.Firsts.{fails_at}
+use Rattle.stage_layout.proofs.Firsts.{fails_at, fails_before}
 use Rattle.switch_packet.specs.declared.packet.PacketOp.{PacketOp}
 use Rattle.switch_packet.specs.Packets.{PlainPacket}
+use Rattle.switch_packet.specs.Ranges as fields
 use Rattle.switch_packet.specs.Replay.{PlacesDiffer}
-use Rattle.switch_model.specs.Fitting.{IsWithin, IsMet, FitsSwitch}
+use Rattle.switch_model.specs.Fitting.{IsWithin, IsMet, FitsSwitch, IsPlanned}
+use Rattle.switch_model.specs.Flight.{places_of}
 use Rattle.warm_split.specs.Joined.{joined}
 use Rattle.warm_split.specs.Laws.{IsOneVisit, HavePlacesOfTheirOwn}
-use Rattle.warm_split.specs.Resolved.{planned_op, planned_ops, packet_op, packet_of, packet_from}
+use Rattle.warm_split.specs.Resolved.{hot_needs, cold_needs, planned_op, planned_ops, packet_op, packet_of, packet_from}
 use Rattle.warm_split.specs.Sides.{hot_ops, hot_place}
 use Rattle.warm_split.proofs.Distinct.{AreApart, apart_from_sound}
-use Rattle.warm_split.proofs.PackedLaws.{planned_earlier}
-use Rattle.catalogue.specs.Plan.{Plan, script_at}
+use Rattle.warm_split.proofs.PackedLaws.{planned_earlier, hot_few}
+use Rattle.catalogue.specs.Plan.{Plan, PlainItem, items_of, script_in, script_at}
 use Rattle.catalogue.specs.Sound.{IsSound}
-use Rattle.fabric_model.specs.Fits.{PacketsFit}
+use Rattle.fabric_model.specs.Fits.{PacketsFit, PacketsArePlanned, PacketsHaveRanges}
 use Rattle.fabric_model.proofs.Kept.{visit_of, some_hot}
+use Rattle.fabric_model.proofs.HotHistory.{places-packet}
+use Rattle.fabric_model.proofs.JoinedSteps.{length-packet}
 use Rattle.fabric_model.proofs.Layouts.{places_of_their_own}
 
 -- ---- lists
@@ -189,6 +199,55 @@ made_at rows parts known (pass ∷ passes) (op ∷ hot) (suc i) o e =
     let m = made_at rows parts known passes hot i o e in
     record { pass = m.pass; op = m.op; pass_at = m.pass_at; op_at = m.op_at; is = m.is }
 
+-- an operation of a list
+abbrev IsItem : List Op → Op → Type 0
+IsItem ops op = (i : ℕ) × (slice_get ops i ≡ Some op)
+
+filtered_item : (rows : List LayoutRow) (ops : List Op) (op : Op) (j : ℕ) → slice_get (hot_ops rows ops) j ≡ Some op → IsItem ops op
+filtered_item rows [] op j e = cc
+filtered_item rows (x ∷ ops) op j e = by (is_hot rows x.tuple) j e (filtered_item rows ops op)
+  where
+    by : (b : Bool) (k : ℕ) → slice_get (if b then x ∷ hot_ops rows ops else hot_ops rows ops) k ≡ Some op → ((i : ℕ) → slice_get (hot_ops rows ops) i ≡ Some op → IsItem ops op) → IsItem (x ∷ ops) op
+    by true zero at rest = (0, at)
+    by true (suc k) at rest = let r = rest k at in (suc r.0, r.1)
+    by false k at rest = let r = rest k at in (suc r.0, r.1)
+
+-- a read of a sound script needs nothing
+read_has_none : (ops : List Op) (i : ℕ) (op : Op) → script_fault ops ≡ None → slice_get ops i ≡ Some op → IsTrue (is_read op.act) → needs_list op.needs ≡ []
+read_has_none ops i op sound at reads =
+    none (is_read op.act) (needs_list op.needs) reads
+    (subst (λ (o : Op). uses_badly i o ≡ false) (get_or_from_slice_get ops i op op at) (fails_before uses_badly op ops i (sound_uses ops sound) (slice_get_within ops i op at)))
+  where
+    none : (r : Bool) (ns : List Need) → IsTrue r → list_any (λ n. r || not (nat_lt n.from i)) ns ≡ false → ns ≡ []
+    none true [] t e = refl
+    none true (n ∷ ns) t e = cc
+    none false ns t e = cc
+
+nothing_needed : (known : List Pair) → operand [] (pos 0) known ≡ pos 0
+unfolding operand
+nothing_needed known = int_wrap_fits w64 (pos 0) zero_fits
+  where
+    zero_fits : FitsSigned w64 (pos 0)
+    zero_fits = search rules
+
+-- some half is touched where there is a place
+some_half : (shape : Shape) (places : List Place) → 1 ≤ length places → fields.IsOneTo 3 (halves_of shape places)
+some_half shape [] one = absurd (omega (arith, one))
+some_half shape (p ∷ ps) one = by (nat_lt p.stage shape.split) (touches shape ps 0) (touches shape ps 1)
+  where
+    by : (b t u : Bool) → fields.IsOneTo 3 ((if (if b then 0 else 1) == 0 || t then 2 ^ 0 else 0) + (if (if b then 0 else 1) == 1 || u then 2 ^ 1 else 0))
+    by true t true = (omega arith, omega arith)
+    by true t false = (omega arith, omega arith)
+    by false true u = (omega arith, omega arith)
+    by false false u = (omega arith, omega arith)
+
+ops_fit : (passes k : ℕ) (ops : List PacketOp) → ((i : ℕ) (o : PacketOp) → slice_get ops i ≡ Some o → fields.OpFits passes (k + i) o) → fields.OpsFit passes k ops
+ops_fit passes k [] each = tt
+ops_fit passes k (o ∷ ops) each = (
+  subst (λ (n : ℕ). fields.OpFits passes n o) {x = k + 0} {y = k} (omega arith) (each 0 o refl),
+  ops_fit passes (k + 1) ops (λ i x e. subst (λ (n : ℕ). fields.OpFits passes n x) {x = k + suc i} {y = (k + 1) + i} (omega arith) (each (suc i) x e)),
+)
+
 same_before : (step : Step) (p stage pass : ℕ) (place : Place) (q : ℕ) → step.pass ≡ pass → step.place ≡ place → p ≡ q → ComesBefore step p stage → ComesBefore (record { pass = pass; place = place }) q stage
 same_before step p stage pass place q a b c h =
     subst (λ (n : ℕ). ComesBefore (record { pass = pass; place = place }) n stage) c (subst (λ (l : Place). ComesBefore (record { pass = pass; place = l }) p stage) b (subst (λ (n : ℕ). ComesBefore (record { pass = n; place = step.place }) p stage) a h))
@@ -286,8 +345,107 @@ module _ (shape : Shape) (rows : List LayoutRow) (client seq : ℕ) (ops : List 
     apart = differ;
   }
 
+  -- ---- planned packets
+
+  packet_halves : packet.halves ≡ halves_of shape (places_of packet)
+  unfolding packet_from plan_of
+  packet_halves = ap (halves_of shape) (mapped hot ∙ sym (places-packet shape rows client seq ops values))
+    where
+      mapped : (l : List Op) → map (λ (op : HotOp). op.place) (map (planned_op rows parts) l) ≡ map (λ (op : Op). hot_place rows op.tuple) l
+      mapped [] = refl
+      mapped (op ∷ l) = ap (λ (m : List Place). hot_place rows op.tuple ∷ m) (mapped l)
+
+  has_of : (i : ℕ) (o : PacketOp) → Made rows parts known passes hot i o → has_place shape o.place ≡ true
+  has_of i o m = subst (λ (x : PacketOp). has_place shape x.place ≡ true) (sym m.is) (placed shape rows m.op.tuple (hot_place rows m.op.tuple) places (place_at i m.op m.op_at))
+
+  is_planned : IsPlanned shape packet
+  is_planned = record { fits = fits; halves = packet_halves; places = λ i o e. has_of i o (made i o e) }
+
+  -- ---- ranges
+
+  most_passes : greatest passes ≤ 16
+  unfolding plan_of
+  most_passes = omega (arith, (has_passes shape planned).most, length-map hot (planned_op rows parts), hot_few rows ops visit.script)
+
+  within_sixteen : packet.passes ≤ 16
+  within_sixteen = subst (λ (n : ℕ). n ≤ 16) (sym counted) most_passes
+
+  count_of : length packet.ops ≡ length hot
+  count_of = length-packet shape rows client seq ops values
+
+  some_place : 1 ≤ length (places_of packet)
+  some_place = omega (arith, length-map packet.ops (λ (o : PacketOp). o.place), count_of, some_of rows ops some)
+
+  op_fits : IsShape shape → (i : ℕ) (o : PacketOp) → slice_get packet.ops i ≡ Some o → fields.OpFits packet.passes i o
+  op_fits limits i o e =
+      let m = made i o e in
+      let here = within_of i o m in
+      let parts_true = and_parts (nat_lt o.place.stage shape.stages) (nat_lt o.place.array shape.arrays && nat_lt o.place.cell shape.cells) (has_of i o m) in
+      let inner = and_parts (nat_lt o.place.array shape.arrays) (nat_lt o.place.cell shape.cells) parts_true.1 in
+      record {
+        pass = (here.from_one, here.to_last);
+        stage = omega (arith, here.stage, limits.stages.1);
+        array = omega (arith, ltb-true o.place.array shape.arrays inner.0, limits.arrays.1);
+        cell = omega (arith, ltb-true o.place.cell shape.cells inner.1, limits.cells.1);
+        earlier = each (λ (need : Need). IsMet packet i o need.from) (λ (need : Need). need.from < i) (needs_list o.needs) (λ need met. met.earlier) (need_met i o m);
+        read = λ reads. subst (λ (x : PacketOp). IsTrue (is_read x.act) → (x.bias ≡ pos 0) × (needs_list x.needs ≡ [])) (sym m.is) (λ r. read_of m.pass m.op (no_needs m.op (in_script m.op i m.op_at) r)) reads;
+      }
+    where
+      in_script : (op : Op) (j : ℕ) → slice_get hot j ≡ Some op → IsItem ops op
+      in_script op j at = filtered_item rows ops op j at
+
+      no_needs : (op : Op) → IsItem ops op → IsTrue (is_read op.act) → needs_list op.needs ≡ []
+      no_needs op item reads = read_has_none ops item.0 op visit.script item.1 reads
+
+      read_of : (pass : ℕ) (op : Op) → needs_list op.needs ≡ [] → ((packet_op rows parts known pass op).bias ≡ pos 0) × (needs_list (packet_op rows parts known pass op).needs ≡ [])
+      read_of pass op none = (ap (λ (ns : List Need). operand (cold_needs parts ns) (pos 0) known) none ∙ nothing_needed known, ap (λ (ns : List Need). needs_list (needs_of (hot_needs parts ns))) none)
+
+  low_client : client < 8 → packet.client < 8
+  unfolding packet_from
+  low_client low = low
+
+  have_ranges : IsShape shape → client < 8 → fields.Fits packet
+  have_ranges limits low = record {
+    client = low_client low;
+    passes = (subst (λ (n : ℕ). 1 ≤ n) (sym counted) one_pass, within_sixteen);
+    halves = subst (fields.IsOneTo 3) (sym packet_halves) (some_half shape (places_of packet) some_place);
+    count = (omega (arith, count_of, some_of rows ops some), omega (arith, count_of, hot_few rows ops visit.script));
+    ops = ops_fit packet.passes 0 packet.ops (λ i o e. subst (λ (n : ℕ). fields.OpFits packet.passes n o) {x = i} {y = 0 + i} (omega arith) (op_fits limits i o e));
+  }
+
+-- the layout of a sound session has its places
+sound_places : (plan : Plan) → IsSound plan → AllByRecursion (λ row. has_place plan.shape row.place ≡ true) plan.layout
+sound_places plan sound = have_places plan.shape plan.tuples plan.layout (none_bad plan.shape plan.tuples plan.layout sound.layout)
+
 pub packets_fit : (plan : Plan) → IsSound plan → PacketsFit plan
 packets_fit plan sound client seq values hot =
     let ops = script_at plan client seq in
-    fits plan.shape plan.layout client seq ops values (places_of_their_own plan.shape plan.tuples plan.layout sound.layout)
-    (have_places plan.shape plan.tuples plan.layout (none_bad plan.shape plan.tuples plan.layout sound.layout)) (visit_of plan client seq sound (some_hot plan ops hot)) hot
+    fits plan.shape plan.layout client seq ops values (places_of_their_own plan.shape plan.tuples plan.layout sound.layout) (sound_places plan sound) (visit_of plan client seq sound (some_hot plan ops hot)) hot
+
+pub packets_are_planned : (plan : Plan) → IsSound plan → PacketsArePlanned plan
+packets_are_planned plan sound client seq values hot =
+    let ops = script_at plan client seq in
+    is_planned plan.shape plan.layout client seq ops values (places_of_their_own plan.shape plan.tuples plan.layout sound.layout) (sound_places plan sound) (visit_of plan client seq sound (some_hot plan ops hot)) hot
+
+-- a client with a script is one of the session's
+with_script : (plan : Plan) (client seq : ℕ) → 1 ≤ length (script_at plan client seq) → client < length plan.clients
+with_script plan client seq one = in_range plan.clients client (by (seq == 0) one)
+  where
+    in_range : (lists : List (List PlainItem)) (c : ℕ) → 1 ≤ length (get_or lists c []) → c < length lists
+    in_range [] c h = absurd (omega (arith, h))
+    in_range (items ∷ lists) zero h = omega arith
+    in_range (items ∷ lists) (suc c) h = omega (arith, in_range lists c h)
+
+    found : (items : List PlainItem) (k : ℕ) → 1 ≤ length (unwrap_or (option_and_then script_in (slice_get items k)) []) → 1 ≤ length items
+    found [] k h = absurd (omega (arith, h))
+    found (item ∷ items) k h = omega arith
+
+    by : (b : Bool) → 1 ≤ length (unwrap_or (option_and_then script_in (if b then None else slice_get (items_of plan client) (seq - 1))) []) → 1 ≤ length (items_of plan client)
+    by true h = absurd (omega (arith, h))
+    by false h = found (items_of plan client) (seq - 1) h
+
+pub packets_have_ranges : (plan : Plan) → IsSound plan → PacketsHaveRanges plan
+packets_have_ranges plan sound client seq values hot =
+    let ops = script_at plan client seq in
+    have_ranges plan.shape plan.layout client seq ops values (places_of_their_own plan.shape plan.tuples plan.layout sound.layout) (sound_places plan sound) (visit_of plan client seq sound (some_hot plan ops hot)) hot
+    sound.limits.shape (omega (arith, with_script plan client seq (some_hot plan ops hot), sound.limits.clients))

@@ -41,3 +41,8 @@ pub mod Opening
 pub mod Layouts
 pub mod Legal
 pub mod Fitting
+pub mod PerClient
+pub mod FewRecords
+pub mod FewEntries
+pub mod FewRefusals
+pub mod SmallStamps

@@ -12,3 +12,4 @@ pub mod ColdFacts
 pub mod Carried
 pub mod Holds
 pub mod Fits
+pub mod Room

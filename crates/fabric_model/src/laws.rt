@@ -5,14 +5,18 @@
 
 ghost use Rattle.catalogue.specs.Plan.{Plan};
 ghost use Rattle.catalogue.specs.Sound.{IsSound};
-ghost use Rattle.fabric_model.specs.Fits.{PacketsFit};
+ghost use Rattle.fabric_model.specs.Fits.{PacketsFit, PacketsArePlanned, PacketsHaveRanges};
 ghost use Rattle.fabric_model.specs.Laws.{IsReached, HasLegalHistory, AllFinished, HasSerialValues};
 ghost use Rattle.fabric_model.specs.State.{State};
 
 /// The packet of each transaction with an operation in the switch fits the switch: its passes and stages are
-/// there, what an operation needs is executed before it, and no two operations are on one register.
+/// there, what an operation needs is executed before it, and no two operations are on one register. It names
+/// the halves that it touches, and places that there are, and each of its fields is in the range that its text
+/// has: at most 16 passes and 16 operations, and a client from 0 to 7.
 pub fn packets_fit()
-    ensures { (plan : Plan) → IsSound plan → PacketsFit plan }
+    ensures fit { (plan : Plan) → IsSound plan → PacketsFit plan }
+    ensures planned { (plan : Plan) → IsSound plan → PacketsArePlanned plan }
+    ensures ranges { (plan : Plan) → IsSound plan → PacketsHaveRanges plan }
 {}
 
 /// Whichever actors move, and whenever: the history is in stamp order and legal. Transactions in the switch,

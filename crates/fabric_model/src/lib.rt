@@ -10,6 +10,7 @@
 
 mod items;
 mod laws;
+mod room;
 mod rounds;
 
 pub use items::{
@@ -17,6 +18,7 @@ pub use items::{
     refusals_are_true,
 };
 pub use laws::{histories_are_legal, packets_fit, values_are_serial};
+pub use room::room_is_enough;
 pub use rounds::{
     bounds_are_small, driven_runs_finish, moves_are_bounded, rounds_make_a_run, someone_can_move,
 };

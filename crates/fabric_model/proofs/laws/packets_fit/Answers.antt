@@ -1,5 +1,5 @@
-use Rattle.fabric_model.proofs.Fitting.{packets_fit}
+use Rattle.fabric_model.proofs.Fitting.{packets_fit, packets_are_planned, packets_have_ranges}
 use Rattle.fabric_model.proofs.laws.packets_fit.Goals as goal
 
 pub returns : goal.returns
-returns c = packets_fit
+returns c = record { fit = packets_fit; planned = packets_are_planned; ranges = packets_have_ranges }
