@@ -1,1 +1,3 @@
-pub mod LockLaws
+mod WordLaws
+mod TableLaws
+mod FreeRows

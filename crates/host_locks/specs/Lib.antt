@@ -1,2 +1,3 @@
 pub mod Conflict
+pub mod Words
 pub mod Locks

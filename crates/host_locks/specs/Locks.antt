@@ -1,34 +1,30 @@
 -- Lock tables: for each tuple, the mode in which each client holds it.
-use Rattle.std.specs.Prelude.{◌≡◌, ℕ, ◌==◌, ◌&&◌, Bool, List, length, Option, Some, None, is_some, slice_index_or, if◌then◌else◌}
+use Rattle.std.specs.Prelude.{◌≡◌, ℕ, ◌==◌, ◌&&◌, Bool, Option, Some, is_some, if◌then◌else◌}
+use Rattle.std.specs.Coded.{Coded}
+use Rattle.std.specs.FinMap as fin
 use Rattle.std.specs.Option.{option_and_then}
-use Rattle.std.specs.BTreeMap.{is_at}
-use Rattle.std.specs.Map.{lookup}
-use Rattle.txn_model.specs.Tuples.{tuple_cmp}
+use Rattle.txn_model.specs.Tuples.{tuple_cmp, coded_tuple}
 use Rattle.txn_model.specs.declared.op.TupleId.{TupleId}
 use Rattle.host_locks.specs.Conflict.{stops, IsFree, IsLeastInTheWay}
+use Rattle.host_locks.specs.Words.{PlainWord, coded_word, mode_in}
 use Rattle.host_locks.specs.declared.mode.Grant.{Grant}
 use Rattle.host_locks.specs.declared.mode.Grant.TheVariants.{Granted, HeldBy}
 use Rattle.host_locks.specs.declared.mode.Mode.{Mode}
 
--- the tuples of a table, each with the modes in which the clients hold it, by client
+-- the tuples of a table, each with its lock word
 abbrev pub Locks : Type 0
-Locks = List (TupleId × List (Option Mode))
+Locks = fin.FinMap tuple_cmp PlainWord
 
--- the modes in which the clients hold the tuple; None where it isn't in the table
-abbrev pub modes_of : Locks → TupleId → Option (List (Option Mode))
-modes_of locks t = lookup (is_at (tuple_cmp t)) locks
-
--- each tuple has a mode, or none, for each of 8 clients
-abbrev pub HasEight : Locks → Type 0
-HasEight locks = (t : TupleId) (modes : List (Option Mode)) → modes_of locks t ≡ Some modes → length modes ≡ 8
+abbrev pub locks_code : Coded Locks
+locks_code = fin.code coded_tuple coded_word
 
 -- the tuple is in the table
 abbrev pub has_tuple : Locks → TupleId → Bool
-has_tuple locks t = is_some (modes_of locks t)
+has_tuple locks t = is_some (fin.get locks t)
 
 -- the mode in which the client holds the tuple; None where it doesn't
 abbrev pub mode_held : Locks → TupleId → ℕ → Option Mode
-mode_held locks t client = option_and_then (λ modes. slice_index_or modes client None) (modes_of locks t)
+mode_held locks t client = option_and_then (λ word. mode_in word client) (fin.get locks t)
 
 -- a client's lock on the tuple stands in the way of one who asks for it in this mode
 abbrev pub in_the_way : Locks → TupleId → Mode → ℕ → Bool

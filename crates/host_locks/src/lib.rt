@@ -5,9 +5,11 @@
 #![tactic(auto)]
 
 mod lock_table;
+mod lock_word;
 mod mode;
 
 pub use lock_table::{LockTable, MOST_CLIENTS};
+pub use lock_word::LockWord;
 pub use mode::{Grant, Mode};
 
 #[cfg(test)]

@@ -1,50 +1,58 @@
 //! Lock tables.
 
-ghost use Rattle.std.specs.Prelude.{◌≡◌, ◌==◌, ℕ, ◌<◌, IfOk, IsSome, IsTrue, None};
+ghost use Rattle.std.specs.Prelude.{◌≡◌, ◌==◌, ℕ, ◌<◌, length, map, HoldsAt, IfOk, IsSome, IsTrue, MatchResult, None};
+ghost use Rattle.std.specs.declared.cmp.Ordering.TheVariants.{Equal};
+ghost use Rattle.std.specs.FinMap.{find, is_sorted};
 ghost use Rattle.std.specs.List.{list_any};
-ghost use Rattle.host_locks.specs.Conflict.{stops};
+ghost use Rattle.txn_model.specs.Tuples.{tuple_cmp};
+ghost use Rattle.host_locks.specs.Words.{free_word};
 
+use crate::lock_word::LockWord;
 use crate::mode::{Grant, Mode};
 use std::alloc::Global;
-use std::collections::BTreeMap;
 use std::marker::Model;
 use txn_model::{NoMemory, TupleId};
 
 /// The most clients that hold locks. They are counted from 0.
 pub const MOST_CLIENTS: u8 = 8;
 
-/// Which client holds which tuple, and in which mode: a client has at most one lock on a tuple. Each tuple
-/// has room for the locks of all clients from the start, so that a lock takes no memory. A lock is tried
-/// and given back in logarithmic time.
+/// Which client holds which tuple, and in which mode: a client has at most one lock on a tuple. The tuples
+/// stand in ascending order, each with a word that has room for the locks of all clients, so that a lock
+/// takes no memory. A lock is tried and given back after one binary search.
 #[derive(Debug, Drop)]
 pub struct LockTable {
-    rows: BTreeMap<TupleId, [Option<Mode>; 8]>,
+    rows: Vec<(TupleId, LockWord)>,
 }
 
 impl Model for LockTable {
-    ghost use Rattle.host_locks.specs.Locks.{Locks, HasEight};
+    ghost use Rattle.std.specs.Prelude.{IsTrue};
+    ghost use Rattle.std.specs.FinMap as fin;
+    ghost use Rattle.txn_model.specs.Tuples.{tuple_cmp};
+    ghost use Rattle.host_locks.specs.Locks.{Locks, locks_code};
 
     ghost Value = { Locks };
 
-    ghost view = { λ a. a.rows.entries };
+    ghost coded = { locks_code };
 
-    ghost invariant = { λ a. HasEight a.rows.entries };
+    ghost view = { λ a. fin.from_sorted a.rows.items };
+
+    ghost invariant = { λ a. IsTrue (fin.is_sorted tuple_cmp a.rows.items) };
 }
 
 impl LockTable {
-    ghost use Rattle.host_locks.specs.Conflict.{IsInTheWay};
-    ghost use Rattle.host_locks.specs.Locks.{has_tuple, in_the_way, mode_held, IsWithLock, IsTried};
+    ghost use Rattle.host_locks.specs.Locks.{has_tuple, mode_held, IsWithLock, IsTried};
 
     /// The table of these tuples, without locks.
     pub fn fresh(alloc: Global, tuples: &[TupleId]) -> Result<LockTable, NoMemory>
         ensures tuples { IfOk result (λ table. (t : TupleId) → has_tuple table t ≡ list_any (λ tuple. t.0 == tuple.0) tuples.now) }
         ensures free { IfOk result (λ table. (t : TupleId) (client : ℕ) → mode_held table t client ≡ None) }
     {
-        let mut rows = BTreeMap::new(alloc);
-        for tuple in tuples {
-            rows.insert(*tuple, [None; 8])?;
-        }
-        Ok(LockTable { rows })
+        let mut ascending = Vec::from_slice(alloc, tuples)?;
+        ascending.sort_unstable();
+        ascending.dedup();
+        Ok(LockTable {
+            rows: free_rows(alloc, ascending.as_slice())?,
+        })
     }
 
     /// Asks for a lock for a client that has none on the tuple.
@@ -54,10 +62,12 @@ impl LockTable {
         requires free { mode_held self.old tuple client ≡ None }
         ensures { IsTried self.old self.new tuple mode client result }
     {
-        if let Some(other) = self.holder(tuple, mode, client) {
+        let at = place_of(self.rows.as_slice(), tuple);
+        let word = self.rows[at].1;
+        if let Some(other) = word.conflict(mode, client) {
             return Grant::HeldBy(other);
         }
-        self.set(tuple, client, Some(mode));
+        self.rows[at] = (tuple, word.locked(mode, client));
         Grant::Granted
     }
 
@@ -66,49 +76,50 @@ impl LockTable {
         requires { IsSome (mode_held self.old tuple client) }
         ensures { IsWithLock self.old self.new tuple client None }
     {
-        let _ = &self.rows;
-        self.set(tuple, client, None);
+        let at = place_of(self.rows.as_slice(), tuple);
+        let word = self.rows[at].1;
+        self.rows[at] = (tuple, word.unlocked(client));
     }
 
     /// The mode in which the client holds the tuple; None exactly where it doesn't.
     pub fn mode_of(&self, tuple: TupleId, client: u8) -> Option<Mode>
         ensures { result ≡ mode_held self.now tuple client }
     {
-        let modes = self.rows.get(&tuple)?;
-        modes.get(client as usize).copied().flatten()
-    }
-
-    /// The least other client whose lock on the tuple conflicts with this mode.
-    fn holder(&self, tuple: TupleId, mode: Mode, client: u8) -> Option<u8>
-        ensures { IsInTheWay (in_the_way self.now tuple mode) client result }
-    {
-        let _ = &self.rows;
-        for other in 0..MOST_CLIENTS {
-            let held = self.mode_of(tuple, other);
-            if other != client && is_stopped(mode, held) {
-                return Some(other);
-            }
-        }
-        None
-    }
-
-    fn set(&mut self, tuple: TupleId, client: u8, mode: Option<Mode>)
-        requires there { IsTrue (has_tuple self.old tuple) }
-        requires client { client < MOST_CLIENTS }
-        ensures { IsWithLock self.old self.new tuple client mode }
-    {
-        if let Some(modes) = self.rows.get_mut(&tuple) {
-            modes[client as usize] = mode;
+        match search(self.rows.as_slice(), tuple) {
+            Ok(at) => self.rows[at].1.mode_of(client),
+            Err(_) => None,
         }
     }
 }
 
-/// Whether the lock that another client may hold is in the way of this mode.
-fn is_stopped(mode: Mode, held: Option<Mode>) -> bool
-    ensures { result ≡ stops mode held }
+/// The rows of a table of these tuples, without locks.
+fn free_rows(alloc: Global, tuples: &[TupleId]) -> Result<Vec<(TupleId, LockWord)>, NoMemory>
+    ensures { IfOk result (λ rows. rows.items ≡ map (λ tuple. (tuple, free_word)) tuples.now) }
 {
-    match held {
-        Some(held) => mode.conflicts(held),
-        None => false,
+    let rows = tuples
+        .iter()
+        .map(|&tuple| (tuple, LockWord::free()))
+        .collect(alloc)?;
+    Ok(rows)
+}
+
+/// The place of the tuple's row; Err where there is none.
+fn search(rows: &[(TupleId, LockWord)], tuple: TupleId) -> Result<usize, usize>
+    requires { IsTrue (is_sorted tuple_cmp rows.now) }
+    ensures { MatchResult result (λ i. (i < length rows.now) × HoldsAt (λ row. tuple_cmp row.0 tuple ≡ Equal) rows.now i) (λ _. find tuple_cmp tuple rows.now ≡ None) }
+{
+    rows.binary_search_by_key(&tuple.0, |&(key, _)| key.0)
+}
+
+/// The place of the row of a tuple that is there.
+fn place_of(rows: &[(TupleId, LockWord)], tuple: TupleId) -> usize
+    requires sorted { IsTrue (is_sorted tuple_cmp rows.now) }
+    requires there { IsSome (find tuple_cmp tuple rows.now) }
+    ensures bound { result < length rows.now }
+    ensures found { HoldsAt (λ row. tuple_cmp row.0 tuple ≡ Equal) rows.now result }
+{
+    match search(rows, tuple) {
+        Ok(at) => at,
+        Err(_) => unreachable!(),
     }
 }
