@@ -287,3 +287,17 @@ some_unfinished (x ∷ clients) e = by (has_finished x) refl e (some_unfinished 
 pub rotas-add : (plan : Plan) (n more : ℕ) → rotas plan (n + more) ≡ rotas plan n ++ rotas plan more
 rotas-add plan zero more = ap (rotas plan) {x = 0 + more} {y = more} (omega arith)
 rotas-add plan (suc n) more = ap (rotas plan) {x = suc n + more} {y = suc (n + more)} (omega arith) ∙ ap (λ (l : List Actor). rota plan ++ l) (rotas-add plan n more) ∙ sym (append_assoc (rota plan) (rotas plan n) (rotas plan more))
+
+-- ---- entries of one client
+
+-- what holds of the numbers of a client's entries
+pub each_seq : (P : ℕ → Type 0) (c : ℕ) (h : History) → AllByRecursion P (seqs_of c h) → AllByRecursion (λ e. e.entry.client ≡ c → P e.entry.seq) h
+each_seq P c [] all = tt
+each_seq P c (e ∷ h) all = by (e.entry.client == c) refl all (each_seq P c h)
+  where
+    clash : (a b : ℕ) → (a == b) ≡ false → a ≡ b → ⊥
+    clash a b n e = grind arith
+
+    by : (b : Bool) → (e.entry.client == c) ≡ b → AllByRecursion P (map (λ f. f.entry.seq) (if b then e ∷ filter (λ f. f.entry.client == c) h else filter (λ f. f.entry.client == c) h)) → (AllByRecursion P (seqs_of c h) → AllByRecursion (λ f. f.entry.client ≡ c → P f.entry.seq) h) → (e.entry.client ≡ c → P e.entry.seq) × AllByRecursion (λ f. f.entry.client ≡ c → P f.entry.seq) h
+    by true is all rest = (λ own. all.0, rest all.1)
+    by false is all rest = (λ own. absurd (clash e.entry.client c is own), rest all)

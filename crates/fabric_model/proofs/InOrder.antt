@@ -221,16 +221,20 @@ module _ (plan : Plan) (s : State) (h : Holds plan s) where
       (subst (λ (g : History). Goes (client_at s c) (desk_in s.switch c) y (desk_in s.switch c) (seqs_of c s.history) (seqs_of c g)) (sym same) mine))
       (λ d n. ap (λ (o : Option Switch). desk_in o d) same_switch) (λ d n. ap (seqs_of d) same)
 
-  -- a decision adds the client's entry behind its others
-  pub decided_last : (c : ℕ) → IsAsking (client_at s c) → seqs_of c (decided plan s c (client_at s c)).history ≡ seqs_of c s.history ++ (client_at s c).seq ∷ []
-  unfolding decided
-  decided_last c asks = own_last c _ s.history h.ties.sorted refl
-      (own_below (client_at s) c (next_sub (greatest (client_at s c).last (client_at s c).noted)) s.history (asking_still (client_at s c) asks)
+  -- the stamp of a decision is above those of all the client's entries
+  pub own_lower : (c : ℕ) → IsAsking (client_at s c) → AllByRecursion (λ e. e.entry.client ≡ c → Below e.entry.stamp (next_sub (greatest (client_at s c).last (client_at s c).noted))) s.history
+  own_lower c asks =
+      own_below (client_at s) c (next_sub (greatest (client_at s c).last (client_at s c).noted)) s.history (asking_still (client_at s c) asks)
       (λ f low. Below-from_AtMost f.entry.stamp (greatest (client_at s c).last (client_at s c).noted) (next_sub (greatest (client_at s c).last (client_at s c).noted))
       (AtMost-trans f.entry.stamp (client_at s c).last (greatest (client_at s c).last (client_at s c).noted) low (AtMost-greatest (client_at s c).noted (client_at s c).last)) (Below-next_sub (greatest (client_at s c).last (client_at s c).noted)))
       (from_filter is_answered (λ e. e.entry.client ≡ c → AtMost e.entry.stamp (client_at s c).last) s.history (h.ties.cold.own c))
       (from_filter is_carried (λ e. e.pairs ≡ None → (client_at s e.entry.client).phase ≡ Waiting) s.history (waiting_ones plan (client_at s) (desk_at h.now) 0 (hot_cells plan) (carried s.history) (machine.entered h.now) h.ties.carried_ones))
-      h.ties.unanswered)
+      h.ties.unanswered
+
+  -- so it adds the client's entry behind its others
+  pub decided_last : (c : ℕ) → IsAsking (client_at s c) → seqs_of c (decided plan s c (client_at s c)).history ≡ seqs_of c s.history ++ (client_at s c).seq ∷ []
+  unfolding decided
+  decided_last c asks = own_last c _ s.history h.ties.sorted refl (own_lower c asks)
 
   decided_others : (c d : ℕ) → d ≢ c → seqs_of d (decided plan s c (client_at s c)).history ≡ seqs_of d s.history
   unfolding decided

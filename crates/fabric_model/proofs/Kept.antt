@@ -64,12 +64,12 @@ same_some : {T : Type 0} {a b : T} → Some a ≡ Some b → a ≡ b
 same_some e = cc
 
 -- where an answer comes from
-record Answered (now : Switch) (c : ℕ) (answer : Answer) : Type 0 where
+pub record Answered (now : Switch) (c : ℕ) (answer : Answer) : Type 0 where
   pub k : ℕ
   pub desk : desk_at now c ≡ Entered k
   pub number : answer.number ≡ k + 1
 
-answered_desk : (now : Switch) (c : ℕ) (answer : Answer) → answer_of now c ≡ Some answer → Answered now c answer
+pub answered_desk : (now : Switch) (c : ℕ) (answer : Answer) → answer_of now c ≡ Some answer → Answered now c answer
 answered_desk now c answer has = by (desk_at now c) refl has
   where
     done : (k : ℕ) (b : Bool) → desk_at now c ≡ Entered k → (if b then Some (record { number = k + 1; pairs = (flight_at now.flights k).pairs }) else None) ≡ Some answer → Answered now c answer

@@ -46,3 +46,10 @@ pub mod FewRecords
 pub mod FewEntries
 pub mod FewRefusals
 pub mod SmallStamps
+pub mod Rising
+pub mod TwoPhases
+pub mod StampsAbove
+pub mod RecordsStand
+pub mod TakenAnswer
+pub mod Growing
+pub mod AnsweredRecords

@@ -57,7 +57,7 @@ refusals_of plan s after actor (AtPort c now next up to is) = inl (ap (λ (z : S
 refusals_of plan s after actor (AtStage x now next up to is) = inl (ap (λ (z : State). z.refusals) is)
 
 -- the clients and their locks, without the switch
-abbrev on_hosts : State → core.State
+abbrev pub on_hosts : State → core.State
 on_hosts s = record { clients = s.clients; store = s.store; history = s.history; refusals = s.refusals; moves = s.moves }
 
 true_refusals : (plan : Plan) (rest done : List Actor) (s after : State) → state_of plan done ≡ Some s → s.moves ≡ length done → AllByRecursion (IsTrue plan (done ++ rest)) s.refusals → state_behind plan s rest ≡ Some after

@@ -16,6 +16,7 @@ use Rattle.catalogue.specs.Plan.{Plan, script_at}
 use Rattle.catalogue.specs.Sound.{IsSound, IsActor}
 use Rattle.catalogue.specs.declared.actor.Actor.{Actor}
 use Rattle.core_model.specs.Laws.{IsAscending}
+use Rattle.core_model.specs.StampOrder.{Below}
 use Rattle.core_model.specs.State.{ClientState}
 use Rattle.core_model.specs.declared.phase.Phase.TheVariants.{Waiting, Installing, Finished}
 use Rattle.fabric_model.specs.Bound.{moves_left, move_bound}
@@ -64,6 +65,10 @@ IsPast x seq = (seq < x.seq) ⊎ ((seq ≡ x.seq) × ((x.phase ≡ Waiting) ⊎ 
 pub record HasItemsInOrder (s : State) : Type 0 where
   pub ascending : (c : ℕ) → IsAscending (seqs_of c s.history)
   pub past : (c : ℕ) → AllByRecursion (IsPast (client_at s c)) (seqs_of c s.history)
+
+-- of two entries of one client the one with the lower seq has the lower stamp
+abbrev pub HasRisingStamps : State → Type 0
+HasRisingStamps s = AllByRecursion (λ e. AllByRecursion (λ f. e.entry.client ≡ f.entry.client → e.entry.seq < f.entry.seq → Below e.entry.stamp f.entry.stamp) s.history) s.history
 
 -- one of the session's actors can move
 pub record SomeoneCanMove (plan : Plan) (s : State) : Type 0 where

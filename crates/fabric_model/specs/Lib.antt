@@ -13,3 +13,6 @@ pub mod Carried
 pub mod Holds
 pub mod Fits
 pub mod Room
+pub mod TwoPhases
+pub mod Fixed
+pub mod Recorded

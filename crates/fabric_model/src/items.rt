@@ -7,7 +7,8 @@ ghost use Rattle.catalogue.specs.Plan.{Plan};
 ghost use Rattle.catalogue.specs.declared.actor.Actor.{Actor};
 ghost use Rattle.fabric_model.specs.Asking.{IsTrue, IsOnHost, HotAreNotRefused};
 ghost use Rattle.fabric_model.specs.Ends.{HasEnds};
-ghost use Rattle.fabric_model.specs.Laws.{IsReached, HasItemsInOrder, AnswersStand};
+ghost use Rattle.fabric_model.specs.Fixed.{HasStampsAbove};
+ghost use Rattle.fabric_model.specs.Laws.{IsReached, HasItemsInOrder, HasRisingStamps, AnswersStand};
 ghost use Rattle.fabric_model.specs.Run.{state_of};
 ghost use Rattle.fabric_model.specs.State.{State};
 ghost use Rattle.fabric_model.specs.Step.{step};
@@ -31,9 +32,16 @@ pub fn hot_ones_are_never_refused()
 
 /// At any time, each client's entries stand in its own order, each of its items has at most one, and no
 /// item behind its present one has any. The present one has one only while its client waits for an answer
-/// or installs values.
+/// or installs values. Of two entries of one client the one with the lower number has the lower stamp.
 pub fn items_are_in_order()
-    ensures { (plan : Plan) (s : State) → IsReached plan s → HasItemsInOrder s }
+    ensures order { (plan : Plan) (s : State) → IsReached plan s → HasItemsInOrder s }
+    ensures stamps { (plan : Plan) (s : State) → IsReached plan s → HasRisingStamps s }
+{}
+
+/// The stamp of each entry was fixed by a move of the trace. In the state before that move it was above its
+/// client's last stamp and above each stamp that was noted with a lock which the client then held.
+pub fn stamps_stand_above()
+    ensures { (plan : Plan) (s : State) (reached : IsReached plan s) → HasStampsAbove plan reached.trace s }
 {}
 
 /// Each transaction before a client's present item is committed, and so has an answered entry, or it is

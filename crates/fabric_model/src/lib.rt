@@ -10,14 +10,18 @@
 
 mod items;
 mod laws;
+mod locks;
+mod records;
 mod room;
 mod rounds;
 
 pub use items::{
     answered_entries_stand, hot_ones_are_never_refused, items_are_in_order, items_end,
-    refusals_are_true,
+    refusals_are_true, stamps_stand_above,
 };
 pub use laws::{histories_are_legal, packets_fit, values_are_serial};
+pub use locks::locks_are_two_phase;
+pub use records::{records_answer_each_other, records_stand};
 pub use room::room_is_enough;
 pub use rounds::{
     bounds_are_small, driven_runs_finish, moves_are_bounded, rounds_make_a_run, someone_can_move,
