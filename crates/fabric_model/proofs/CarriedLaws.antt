@@ -148,7 +148,7 @@ kept_all P (e ∷ h) all = by (is_answered e) (kept_all P h all.1)
     by false rest = rest
 
 -- in a history in order, the entries before one of them aren't behind it, and those behind it are
-in_between : (a : History) (e : HistoryEntry) (b : History) → IsInStampOrder (a ++ e ∷ b) → AllByRecursion (λ f. entry_cmp e.entry f.entry ≢ Less) a × AllByRecursion (λ f. entry_cmp e.entry f.entry ≡ Less) b
+pub in_between : (a : History) (e : HistoryEntry) (b : History) → IsInStampOrder (a ++ e ∷ b) → AllByRecursion (λ f. entry_cmp e.entry f.entry ≢ Less) a × AllByRecursion (λ f. entry_cmp e.entry f.entry ≡ Less) b
 in_between [] e b sorted = (tt, sorted.0)
 in_between (f ∷ a) e b sorted = let rest = in_between a e b sorted.1 in ((λ less. not_both f e (first_of a e b sorted.0) less, rest.0), rest.1)
   where

@@ -53,3 +53,5 @@ pub mod RecordsStand
 pub mod TakenAnswer
 pub mod Growing
 pub mod AnsweredRecords
+pub mod OwnStamps
+pub mod KnownNumbers

@@ -16,3 +16,4 @@ pub mod Room
 pub mod TwoPhases
 pub mod Fixed
 pub mod Recorded
+pub mod Known

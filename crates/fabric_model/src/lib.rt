@@ -21,7 +21,7 @@ pub use items::{
 };
 pub use laws::{histories_are_legal, packets_fit, values_are_serial};
 pub use locks::locks_are_two_phase;
-pub use records::{records_answer_each_other, records_stand};
+pub use records::{numbers_are_known, records_answer_each_other, records_stand};
 pub use room::room_is_enough;
 pub use rounds::{
     bounds_are_small, driven_runs_finish, moves_are_bounded, rounds_make_a_run, someone_can_move,

@@ -1,8 +1,9 @@
-//! Laws on the records of the clients' logs.
+//! Laws on the records of the clients' logs, and on the numbers of stamps.
 
 ghost use Rattle.std.specs.Prelude.{◌≡◌, ℕ, Some};
 ghost use Rattle.catalogue.specs.Plan.{Plan};
 ghost use Rattle.catalogue.specs.declared.actor.Actor.{Actor};
+ghost use Rattle.fabric_model.specs.Known.{HasKnownNumbers, HasLastStamps};
 ghost use Rattle.fabric_model.specs.Laws.{IsReached};
 ghost use Rattle.fabric_model.specs.Recorded.{HasRecords, IsLonger};
 ghost use Rattle.fabric_model.specs.State.{State, log_at};
@@ -21,4 +22,12 @@ pub fn records_answer_each_other()
 pub fn records_stand()
     ensures { (plan : Plan) (s next : State) (actor : Actor) → IsReached plan s → step plan s actor ≡ Some next
         → (c : ℕ) → IsLonger (log_at s c) (log_at next c) }
+{}
+
+/// At any time, the number of each stamp that a client has or noted, of each tuple's stamp, and of each entry
+/// of a transaction on hosts is that of a packet whose transaction is answered, or 0. Each client's last stamp
+/// is that of its last answered entry, or 0.0 where it has none.
+pub fn numbers_are_known()
+    ensures numbers { (plan : Plan) (s : State) → IsReached plan s → HasKnownNumbers s }
+    ensures last { (plan : Plan) (s : State) → IsReached plan s → HasLastStamps s }
 {}
