@@ -55,3 +55,4 @@ pub mod Growing
 pub mod AnsweredRecords
 pub mod OwnStamps
 pub mod KnownNumbers
+pub mod ColdChains

@@ -1,5 +1,5 @@
 -- What an answered entry makes of what is known of its client's stamps.
-use Rattle.std.proofs.Common.{◌≡◌, ◌≢◌, ◌⊎◌, ℕ, zero, suc, ◌+◌, ◌-◌, ◌<◌, ◌≤◌, ◌==◌, ◌&&◌, Bool, true, false, List, [], ◌∷◌, ◌++◌, map, filter, length, take, set, get_or, append-nil, unwrap_or, Option, Some, None, inl, inr, refl, sym, ap, subst, ◌∙◌, arith, if◌then◌else◌, Less, is_lt}
+use Rattle.std.proofs.Common.{◌≡◌, ◌≢◌, ◌⊎◌, ℕ, zero, suc, ◌+◌, ◌-◌, ◌<◌, ◌≤◌, ◌==◌, ◌&&◌, Bool, true, false, List, [], ◌∷◌, ◌++◌, map, filter, length, take, set, get_or, slice_get, append-nil, unwrap_or, Option, Some, None, inl, inr, refl, sym, ap, subst, ◌∙◌, arith, if◌then◌else◌, Less, is_lt}
 use Rattle.std.specs.List.{AllByRecursion, last_or}
 use Rattle.txn_model.specs.declared.pairs.Pair.{Pair}
 use Rattle.txn_model.specs.declared.stamp.Seen.{Seen}
@@ -28,7 +28,7 @@ use Rattle.fabric_model.specs.Carried.{pending_entry}
 use Rattle.fabric_model.specs.Holds.{is_answered, answered_ones, Holds}
 use Rattle.fabric_model.specs.Intents.{values_of}
 use Rattle.fabric_model.specs.Known.{HasLastStamps}
-use Rattle.fabric_model.specs.Laws.{IsReached}
+use Rattle.fabric_model.specs.Laws.{IsReached, HasEntry}
 use Rattle.fabric_model.specs.Run.{opening}
 use Rattle.fabric_model.specs.State.{State, client_at}
 use Rattle.fabric_model.specs.Step.{granted, refused, released, decided, logged, posted, taken, installed, switched, replied, behind_entry}
@@ -38,6 +38,8 @@ use Rattle.fabric_model.proofs.EntriesKept.{answered_ones-with_entry, answered_o
 use Rattle.fabric_model.proofs.Legal.{holds}
 use Rattle.fabric_model.proofs.MoveKinds.{Move, Grants, Refuses, Releases, Decides, Logs, Posts, Takes, Installs, Moved, ByClient, AtPort, AtStage, move_of}
 use Rattle.fabric_model.proofs.MovesLeft.{same_switch}
+use Rattle.fabric_model.proofs.Numbers.{front}
+use Rattle.fabric_model.proofs.Stand.{still_there}
 use Rattle.fabric_model.proofs.PerClient.{client_now, client_then, on_aborting}
 use Rattle.fabric_model.proofs.Present.{reply_to, stamp_of, clients_at_port, clients_at_stage}
 use Rattle.fabric_model.proofs.Runs.{of_reached}
@@ -104,10 +106,18 @@ is_own c e = e.entry.client == c
 abbrev last_own : ℕ → History → Stamp
 last_own c h = unwrap_or (last_or None (map (λ e. e.entry.stamp) (filter (is_own c) h))) zero_stamp
 
+-- it is there
+pub record HasPresentOne (c : ℕ) (x : ClientState) (h : History) : Type 0 where
+  pub entry : HistoryEntry
+  pub there : HasEntry h entry
+  pub client : entry.entry.client ≡ c
+  pub present : IsPresentOne x entry
+
 pub record StampsOf (c : ℕ) (x : ClientState) (h : History) : Type 0 where
   pub last : x.last ≡ last_own c h
   pub past : AllByRecursion (λ e. e.entry.client ≡ c → IsOwnPast x e) h
   pub above : x.phase ≡ Installing → AllByRecursion (λ seen. Below seen.stamp x.last) x.noted
+  pub there : x.phase ≡ Installing → HasPresentOne c x h
 
 abbrev pub AllStamps : State → Type 0
 AllStamps s = (c : ℕ) → StampsOf c (client_at s c) (answered_ones s.history)
@@ -120,6 +130,7 @@ quiet_stamps c x y h was is last on stamps = record {
   last = last ∙ stamps.last;
   past = each_entry h (λ e p own. inl (on_past e (p own))) stamps.past;
   above = λ i. absurd (is i);
+  there = λ i. absurd (is i);
 }
   where
     on_past : (e : HistoryEntry) → IsOwnPast x e → e.entry.seq < y.seq
@@ -153,9 +164,12 @@ install_stamps plan c x all h stamps = by (x.installed + 1 == all)
     kept_past e (inl lt) = inl lt
     kept_past e (inr p) = inr (record { seq = p.seq; phase = p.phase; stamp = p.stamp; reply = p.reply })
 
+    still : HasPresentOne c x h → HasPresentOne c (record x { installed = x.installed + 1 }) h
+    still p = record { entry = p.entry; there = p.there; client = p.client; present = record { seq = p.present.seq; phase = p.present.phase; stamp = p.present.stamp; reply = p.present.reply } }
+
     by : (b : Bool) → StampsOf c (if b then next_item plan c x else record x { installed = x.installed + 1 }) h
-    by true = record { last = stamps.last; past = each_entry h (λ e p own. inl (later e (p own))) stamps.past; above = λ i. absurd ((begun (length (items_of plan c)) (x.seq + 1) x).0 i) }
-    by false = record { last = stamps.last; past = each_entry h (λ e p own. kept_past e (p own)) stamps.past; above = stamps.above }
+    by true = record { last = stamps.last; past = each_entry h (λ e p own. inl (later e (p own))) stamps.past; above = λ i. absurd ((begun (length (items_of plan c)) (x.seq + 1) x).0 i); there = λ i. absurd ((begun (length (items_of plan c)) (x.seq + 1) x).0 i) }
+    by false = record { last = stamps.last; past = each_entry h (λ e p own. kept_past e (p own)) stamps.past; above = stamps.above; there = λ i. still (stamps.there i) }
 
 -- ---- a client that gets an answered entry
 
@@ -177,13 +191,18 @@ last_now c x e h sorted own above low =
 
 -- a client that installs with this entry, or goes on behind it
 entry_stamps : (c : ℕ) (x y : ClientState) (e : HistoryEntry) (h : History) → x.phase ≢ Installing → IsInStampOrder h → e.entry.client ≡ c → Below x.last e.entry.stamp → AllByRecursion (λ g. g.entry.client ≡ c → AtMost g.entry.stamp x.last) h
-    → y.last ≡ e.entry.stamp → ((q : ℕ) → q < x.seq → q < y.seq) → IsOwnPast y e → (y.phase ≡ Installing → AllByRecursion (λ seen. Below seen.stamp y.last) y.noted) → StampsOf c x h → StampsOf c y (with_entry e h)
-entry_stamps c x y e h was sorted own above low last on new noted stamps = record {
+    → y.last ≡ e.entry.stamp → ((q : ℕ) → q < x.seq → q < y.seq) → IsOwnPast y e → (y.phase ≡ Installing → AllByRecursion (λ seen. Below seen.stamp y.last) y.noted) → (y.phase ≡ Installing → e.entry.seq < y.seq → ⊥) → StampsOf c x h → StampsOf c y (with_entry e h)
+entry_stamps c x y e h was sorted own above low last on new noted not_later stamps = record {
   last = last ∙ last_now c x e h sorted own above low;
   past = all-with_entry (λ g. g.entry.client ≡ c → IsOwnPast y g) e h (each_entry h (λ g p mine. inl (earlier g (p mine))) stamps.past) (λ _. new);
   above = noted;
+  there = λ i. present i new;
 }
   where
+    present : y.phase ≡ Installing → IsOwnPast y e → HasPresentOne c y (with_entry e h)
+    present i (inl lt) = absurd (not_later i lt)
+    present i (inr p) = let at = placed e h sorted in record { entry = e; there = (length at.before, ap (λ (l : History). slice_get l (length at.before)) at.new ∙ front at.before e at.behind); client = own; present = p }
+
     earlier : (g : HistoryEntry) → IsOwnPast x g → g.entry.seq < y.seq
     earlier g (inl lt) = on g.entry.seq lt
     earlier g (inr p) = absurd (was p.phase)
@@ -194,6 +213,7 @@ other_stamps d x e h n stamps = record {
   last = stamps.last ∙ sym (ap (λ (l : History). unwrap_or (last_or None (map (λ (g : HistoryEntry). g.entry.stamp) l)) zero_stamp) (passes_not (is_own d) e h (another d e.entry.client (λ same. n (sym same)))));
   past = all-with_entry (λ g. g.entry.client ≡ d → IsOwnPast x g) e h stamps.past (λ own. absurd (n own));
   above = stamps.above;
+  there = λ i. let p = stamps.there i in let at = still_there e p.entry h p.there.0 p.there.1 in record { entry = p.entry; there = at; client = p.client; present = p.present };
 }
 
 -- ---- moves
@@ -228,7 +248,7 @@ module _ (plan : Plan) (s : State) (h : Holds plan s) (c : ℕ) (lt : c < length
       let e : HistoryEntry = record { entry = record { stamp = stamp; client = c; seq = x.seq }; pairs = Some reply } in
       let above = above_all x.last x.noted in
       new_entry after y e (ap (λ (z : State). z.clients) is) (ap (λ (z : State). answered_ones z.history) is ∙ answered_ones-with_entry e s.history refl h.ties.sorted) refl
-      (entry_stamps c x y e ones (asking_quiet x asks) h.ties.cold.sorted refl above.0 (h.ties.cold.own c) refl (λ q low. low) (inr (record { seq = refl; phase = refl; stamp = refl; reply = refl })) (λ i. above.1) (stamps c))
+      (entry_stamps c x y e ones (asking_quiet x asks) h.ties.cold.sorted refl above.0 (h.ties.cold.own c) refl (λ q low. low) (inr (record { seq = refl; phase = refl; stamp = refl; reply = refl })) (λ i. above.1) (λ i late. omega (arith, late)) (stamps c))
 
   takes : (after : State) (now next : Switch) (answer : Answer) → x.phase ≡ Waiting → s.switch ≡ Some now → answer_of now c ≡ Some answer → after ≡ taken plan s c x answer next → AllStamps after
   unfolding taken
@@ -253,10 +273,10 @@ module _ (plan : Plan) (s : State) (h : Holds plan s) (c : ℕ) (lt : c < length
           → StampsOf c (if b then next_item plan c (record x { phase = Installing; last = stamp_of answer; reply = reply }) else record x { phase = Installing; last = stamp_of answer; reply = reply }) (with_entry (record (pending_entry c x answer.number) { pairs = Some reply }) ones)
       by e reply above quiet noted true =
           let w : ClientState = record x { phase = Installing; last = stamp_of answer; reply = reply } in
-          entry_stamps c x (next_item plan c w) (record (pending_entry c x answer.number) { pairs = Some reply }) ones quiet h.ties.cold.sorted refl above (h.ties.cold.own c) refl (λ q low. omega (arith, low)) (inl (omega arith)) (λ i. absurd ((begun (length (items_of plan c)) (x.seq + 1) w).0 i)) (stamps c)
+          entry_stamps c x (next_item plan c w) (record (pending_entry c x answer.number) { pairs = Some reply }) ones quiet h.ties.cold.sorted refl above (h.ties.cold.own c) refl (λ q low. omega (arith, low)) (inl (omega arith)) (λ i. absurd ((begun (length (items_of plan c)) (x.seq + 1) w).0 i)) (λ i late. (begun (length (items_of plan c)) (x.seq + 1) w).0 i) (stamps c)
       by e reply above quiet noted false =
           entry_stamps c x (record x { phase = Installing; last = stamp_of answer; reply = reply }) (record (pending_entry c x answer.number) { pairs = Some reply }) ones quiet h.ties.cold.sorted refl above (h.ties.cold.own c) refl (λ q low. low)
-          (inr (record { seq = refl; phase = refl; stamp = refl; reply = refl })) (λ i. all_below answer.number x.noted noted) (stamps c)
+          (inr (record { seq = refl; phase = refl; stamp = refl; reply = refl })) (λ i. all_below answer.number x.noted noted) (λ i late. omega (arith, late)) (stamps c)
 
   stamps_moved : (after : State) → Move plan s c after → AllStamps after
   unfolding granted refused released logged posted installed
@@ -304,8 +324,8 @@ stamps_step plan s after actor h stamps (AtStage k now next up to is) =
     stamps_still s after (ap (λ (z : State). z.clients) is ∙ clients_at_stage s next) (ap (λ (z : State). answered_ones z.history) is ∙ ones_at_stage s next) stamps
 
 first_stamps : (lists : List (List PlainItem)) (c d : ℕ) → StampsOf d (get_or (first_clients lists) c (at_item 0 1 zero_stamp)) []
-first_stamps [] c d = record { last = refl; past = tt; above = λ i. absurd ((begun 0 1 (at_item 0 1 zero_stamp)).0 i) }
-first_stamps (items ∷ lists) zero d = record { last = refl; past = tt; above = λ i. absurd ((begun (length items) 1 (at_item 0 1 zero_stamp)).0 i) }
+first_stamps [] c d = record { last = refl; past = tt; above = λ i. absurd ((begun 0 1 (at_item 0 1 zero_stamp)).0 i); there = λ i. absurd ((begun 0 1 (at_item 0 1 zero_stamp)).0 i) }
+first_stamps (items ∷ lists) zero d = record { last = refl; past = tt; above = λ i. absurd ((begun (length items) 1 (at_item 0 1 zero_stamp)).0 i); there = λ i. absurd ((begun (length items) 1 (at_item 0 1 zero_stamp)).0 i) }
 first_stamps (items ∷ lists) (suc c) d = first_stamps lists c d
 
 stamps_at_opening : (plan : Plan) → AllStamps (opening plan)

@@ -28,7 +28,7 @@ same_stands : (before after : History) → after ≡ before → AnswersStand bef
 same_stands before after same = all_stand before after (λ k e is some. (k, ap (λ (h : History). slice_get h k) same ∙ is))
 
 -- where an entry comes in
-still_there : (e f : HistoryEntry) (h : History) (k : ℕ) → slice_get h k ≡ Some f → HasEntry (with_entry e h) f
+pub still_there : (e f : HistoryEntry) (h : History) (k : ℕ) → slice_get h k ≡ Some f → HasEntry (with_entry e h) f
 still_there e f [] k is = cc
 still_there e f (g ∷ h) k is = by (is_lt (entry_cmp e.entry g.entry)) k is (λ i at. still_there e f h i at)
   where

@@ -17,3 +17,4 @@ pub mod TwoPhases
 pub mod Fixed
 pub mod Recorded
 pub mod Known
+pub mod ColdChains

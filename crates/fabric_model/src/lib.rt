@@ -20,7 +20,7 @@ pub use items::{
     refusals_are_true, stamps_stand_above,
 };
 pub use laws::{histories_are_legal, packets_fit, values_are_serial};
-pub use locks::locks_are_two_phase;
+pub use locks::{chains_are_cold, locks_are_two_phase};
 pub use records::{numbers_are_known, records_answer_each_other, records_stand};
 pub use room::room_is_enough;
 pub use rounds::{
