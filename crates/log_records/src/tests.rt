@@ -1,27 +1,28 @@
 use super::*;
-use std::alloc::Global;
 use std::test::Fail;
 use switch_packet::{Packet, PacketOp};
-use txn_model::{Act, Needs, NoMemory, Pair, Pairs, Place};
+use txn_model::{Act, Needs, Pair, Pairs, Place};
 
-const READ: PacketOp = PacketOp {
-    pass: 1,
-    place: Place {
-        stage: 0,
-        array: 0,
-        cell: 0,
-    },
-    act: Act::Read,
-    bias: 0,
-    needs: Needs::none(),
-};
+fn read() -> PacketOp {
+    PacketOp {
+        pass: 1,
+        place: Place {
+            stage: 0,
+            array: 0,
+            cell: 0,
+        },
+        act: Act::Read,
+        bias: 0,
+        needs: Needs::none(),
+    }
+}
 
 #[test]
 fn a_packet_is_taken_over(rt: HostRuntime) -> Result<(), Fail> {
     let mut log = ClientLog::fresh(rt.alloc(), 2)?;
     let mut packet = Packet::blank(rt.alloc())?;
     packet.seq = 3;
-    packet.ops.push(READ);
+    packet.ops.push(read());
     log.push_intent(7, &mut packet);
     assert_eq!(rt; (packet.seq, packet.ops.len()), (0, 0));
     let intent = log.last_intent();
