@@ -1,0 +1,12 @@
+pub mod Numbers
+pub mod Plain
+pub mod Planned
+pub mod Rows
+pub mod Seats
+pub mod Inside
+pub mod Keeps
+pub mod Seating
+pub mod Walks
+pub mod Seen
+pub mod Shows
+pub mod ModelLaws
