@@ -25,3 +25,4 @@ pub mod Entering
 pub mod Advancing
 pub mod Restoring
 pub mod Events
+pub mod TestPackets

@@ -16,3 +16,6 @@ pub use laws::{
 };
 pub use pipeline::Pipeline;
 pub use step::Step;
+
+#[cfg(test)]
+mod tests;
