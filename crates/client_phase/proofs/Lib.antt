@@ -1,5 +1,11 @@
-pub mod Noted
-pub mod Fills
-pub mod Grants
+pub mod Numbers
+pub mod Acting
+pub mod Chosen
+pub mod Found
+pub mod Stamps
+pub mod Rows
+pub mod ModelRows
+pub mod Making
+pub mod Models
 pub mod NextMoves
-pub mod Kept
+pub mod Callers

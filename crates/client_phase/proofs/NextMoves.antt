@@ -1,18 +1,28 @@
--- What a client does next, and when it does so.
-use Rattle.std.proofs.Common.{◌≡◌, ◌⊎◌, ℕ, zero, suc, ◌-◌, ◌<◌, ◌≤◌, nat_lt, Bool, true, false, List, [], ◌∷◌, length, slice_get, Option, Some, None, option_map, inl, inr, refl, sym, ap, ◌∙◌, arith, if◌then◌else◌}
+-- A client's next action is its move.
+use Rattle.std.proofs.Common.{◌≡◌, ℕ, zero, suc, ◌<◌, ◌≤◌, ◌==◌, nat_lt, Bool, true, false, not, List, [], ◌∷◌, length, slice_get, Option, None, Some, option_map, refl, sym, ap, subst, ◌∙◌, arith, if◌then◌else◌}
 use Rattle.std.proofs.lemmas.Bool.Decides.{nat_tests}
+use Rattle.std.specs.Option.{option_and_then, unwrap_or}
 use Rattle.std.proofs.lemmas.Option.{slice_get_past}
+use Rattle.txn_model.specs.ScriptCheck.{script_fault}
 use Rattle.txn_model.specs.declared.op.Op.{Op}
-use Rattle.catalogue.specs.Plan.{Plan}
+use Rattle.warm_split.specs.declared.parts.Parts.{Parts}
+use Rattle.catalogue.specs.Plan as catalogue
+use Rattle.catalogue.specs.Plan.{Plan, PlainItem, item_of, script_in}
+use Rattle.core_model.specs.Locks.{cold_ops}
+use Rattle.core_model.specs.State.{ClientState, script_now}
 use Rattle.core_model.specs.declared.phase.Phase.{Phase}
 use Rattle.core_model.specs.declared.phase.Phase.TheVariants.{Ready, Locking, Aborting, Logged, Waiting, Installing, Finished}
-use Rattle.core_model.specs.Locks.{cold_ops}
-use Rattle.core_model.specs.State.{ClientState, State, script_now}
-use Rattle.core_model.specs.Step.{asked, decided, asks_or_decides, client_step}
-use Rattle.client_phase.specs.declared.action.Action.{Action}
-use Rattle.client_phase.specs.declared.action.Action.TheVariants.{Lock, Release, Decide, Install, Rest}
+use Rattle.fabric_model.specs.ColdFacts.{FitsPhase}
+use Rattle.fabric_model.specs.State.{State}
+use Rattle.fabric_model.specs.Step.{has_hot, asked, holder, decided, logged, installed, asks_or_goes_on, next_op, client_step}
+use Rattle.client_phase.specs.declared.action.Action.TheVariants.{Lock, Decide, LogIntent, Install}
+use Rattle.client_phase.specs.ColdNumbers.{cold_count, cold_number, is_cold}
+use Rattle.client_phase.specs.Laws.{IsAtScript, IsAt, ActionsAreMoves}
 use Rattle.client_phase.specs.Moves.{move_of}
-use Rattle.client_phase.specs.NextAction.{lock_or_decide, next_action}
+use Rattle.client_phase.specs.NextAction.{locks_or_goes_on, script_action, next_action}
+use Rattle.client_phase.specs.Shown.{shown_now}
+use Rattle.client_phase.proofs.Models.{number_is, step_is, commits_are_the_models}
+use Rattle.client_phase.proofs.Rows.{count_is}
 
 below : (a b : ℕ) → nat_lt a b ≡ true → a < b
 below a b t = grind (arith, nat_tests)
@@ -20,98 +30,91 @@ below a b t = grind (arith, nat_tests)
 not_below : (a b : ℕ) → nat_lt a b ≡ false → b ≤ a
 not_below a b t = grind (arith, nat_tests)
 
-item_at : (ops : List Op) (k : ℕ) → k < length ops → (op : Op) × (slice_get ops k ≡ Some op)
+is_below : (a b : ℕ) → a < b → nat_lt a b ≡ true
+is_below a b t = grind (arith, nat_tests)
+
+as_many : (a b : ℕ) → (a == b) ≡ true → a ≡ b
+as_many a b t = grind (arith, nat_tests)
+
+item_at : {X : Type 0} (xs : List X) (k : ℕ) → k < length xs → (x : X) × (slice_get xs k ≡ Some x)
 item_at [] k lt = absurd (omega arith)
-item_at (op ∷ ops) zero lt = (op, refl)
-item_at (op ∷ ops) (suc k) lt = item_at ops k (omega arith)
+item_at (x ∷ xs) zero lt = (x, refl)
+item_at (x ∷ xs) (suc k) lt = item_at xs k (omega arith)
 
--- a client that takes locks
-asks : (plan : Plan) (s : State) (c : ℕ) (x : ClientState)
-    → let ops = cold_ops plan.layout (script_now plan c x) in asks_or_decides plan s c x (slice_get ops (length x.noted)) ≡ move_of plan s c x (lock_or_decide (length x.noted) (length ops))
-asks plan s c x = by (nat_lt k (length ops)) refl
+some_ops : (ops : List Op) → script_fault ops ≡ None → 0 < length ops
+unfolding script_fault
+some_ops [] e = cc
+some_ops (op ∷ ops) e = omega arith
+
+module _ (plan : Plan) (s : State) (c : ℕ) (x : ClientState) (parts : Parts) (here : IsAtScript plan c x parts) where
+  abbrev ops : List Op
+  ops = script_now plan c x
+
+  abbrev cold : List Op
+  cold = cold_ops plan.layout ops
+
+  found : (o : Option Op) (d : Op) → o ≡ Some d → asks_or_goes_on plan s c x o ≡ option_map (λ op. asked plan s c x op (holder plan s c op)) o
+  found o d e = ap (asks_or_goes_on plan s c x) e ∙ sym (ap (option_map (λ op. asked plan s c x op (holder plan s c op))) e)
+
+  asks : asks_or_goes_on plan s c x (next_op plan c x) ≡ move_of plan s c x (locks_or_goes_on parts ops (length x.noted))
+  asks = by (nat_lt k count) refl
+    where
+      k : ℕ
+      k = length x.noted
+
+      count : ℕ
+      count = cold_count parts ops
+
+      commits : (hot : Bool) → has_hot plan ops ≡ hot → count ≤ k
+          → (if hot then Some (logged plan s c x) else (if nat_lt 0 k then Some (decided plan s c x) else None)) ≡ move_of plan s c x (if not hot then Decide else LogIntent)
+      commits true e le = refl
+      commits false e le =
+          let all : count ≡ length ops = as_many count (length ops) (commits_are_the_models plan ops parts here.sets ∙ ap not e) in
+          ap (λ (b : Bool). if b then Some (decided plan s c x) else None) (is_below 0 k (omega (arith, le, all, some_ops ops here.visit.script)))
+
+      by : (b : Bool) → nat_lt k count ≡ b → asks_or_goes_on plan s c x (slice_get cold k) ≡ move_of plan s c x (if b then Lock (cold_number parts ops k) else (if is_cold parts ops then Decide else LogIntent))
+      by true t =
+          let lt = below k count t in
+          let at = item_at cold k (omega (arith, lt, count_is plan.layout ops parts here.sets)) in
+          found (slice_get cold k) at.0 at.1 ∙ ap (option_map (λ op. asked plan s c x op (holder plan s c op))) (sym (number_is plan.layout ops parts k here.sets lt))
+      by false t =
+          let le = not_below k count t in
+          ap (asks_or_goes_on plan s c x) (slice_get_past cold k (omega (arith, le, count_is plan.layout ops parts here.sets)))
+          ∙ commits (has_hot plan ops) refl le
+          ∙ ap (λ (b : Bool). move_of plan s c x (if b then Decide else LogIntent)) (sym (commits_are_the_models plan ops parts here.sets))
+
+  installs : x.phase ≡ Installing → client_step plan s c x Installing ≡ move_of plan s c x (Install (cold_number parts ops x.installed))
+  installs e =
+      let fits = subst (FitsPhase plan c x) e here.fits in
+      let lt : x.installed < cold_count parts ops = omega (arith, here.installs e, fits.0, count_is plan.layout ops parts here.sets) in
+      ap (option_map (installed plan s c x)) (sym (step_is plan.layout ops parts x.reply x.installed here.sets (here.reply e) lt))
+
+  pub script_moves : (q : Phase) → x.phase ≡ q → client_step plan s c x q ≡ move_of plan s c x (script_action parts ops (shown_now plan c x) q)
+  script_moves Ready e = asks
+  script_moves Locking e = asks
+  script_moves Aborting e = refl
+  script_moves Logged e = refl
+  script_moves Waiting e = refl
+  script_moves Installing e = installs e
+  script_moves Finished e = refl
+
+nothing_left : (plan : Plan) (s : State) (c : ℕ) (x : ClientState) → script_now plan c x ≡ [] → x.noted ≡ [] → client_step plan s c x Ready ≡ None
+nothing_left plan s c x none free =
+    ap (asks_or_goes_on plan s c x) (slice_get_past (cold_ops plan.layout (script_now plan c x)) (length x.noted) (omega (arith, ap (λ (l : List Op). length (cold_ops plan.layout l)) none)))
+    ∙ ap (λ (b : Bool). if b then Some (logged plan s c x) else (if nat_lt 0 (length x.noted) then Some (decided plan s c x) else None)) (ap (has_hot plan) none)
+    ∙ ap (λ (n : ℕ). if nat_lt 0 n then Some (decided plan s c x) else None) (ap length free)
+
+-- the operations of an item, where it is a script
+abbrev script_in_item : Option PlainItem → List Op
+script_in_item o = unwrap_or (option_and_then script_in o) []
+
+pub actions_are_moves : ActionsAreMoves
+actions_are_moves plan s c x parts at = by (item_of plan c x.seq) refl at
   where
-    ops : List Op
-    ops = cold_ops plan.layout (script_now plan c x)
-
-    k : ℕ
-    k = length x.noted
-
-    rest : (b : Bool) → (if b then Some (decided plan s c x) else None) ≡ move_of plan s c x (if b then Decide else Rest)
-    rest true = refl
-    rest false = refl
-
-    found : (o : Option Op) (d : Op) → o ≡ Some d → asks_or_decides plan s c x o ≡ option_map (asked plan s c x) o
-    found o d e = ap (asks_or_decides plan s c x) e ∙ sym (ap (option_map (asked plan s c x)) e)
-
-    by : (b : Bool) → nat_lt k (length ops) ≡ b → asks_or_decides plan s c x (slice_get ops k) ≡ move_of plan s c x (if b then Lock k else (if nat_lt 0 k then Decide else Rest))
-    by true t = let at = item_at ops k (below k (length ops) t) in found (slice_get ops k) at.0 at.1
-    by false t = ap (asks_or_decides plan s c x) (slice_get_past ops k (not_below k (length ops) t)) ∙ rest (nat_lt 0 k)
-
-pub actions_are_moves : (plan : Plan) (s : State) (c : ℕ) (x : ClientState) (p : Phase)
-    → let ops = cold_ops plan.layout (script_now plan c x) in client_step plan s c x p ≡ move_of plan s c x (next_action p (length x.noted) x.installed (length ops))
-actions_are_moves plan s c x Ready = asks plan s c x
-actions_are_moves plan s c x Locking = asks plan s c x
-actions_are_moves plan s c x Aborting = refl
-actions_are_moves plan s c x Logged = refl
-actions_are_moves plan s c x Waiting = refl
-actions_are_moves plan s c x Installing = refl
-actions_are_moves plan s c x Finished = refl
-
--- one lock more, or the decision
-pub lock_or_decide_is : (locked ops : ℕ) (a : Action) → lock_or_decide locked ops ≡ a
-    → ((a ≡ Lock locked) × (locked < ops)) ⊎ (((a ≡ Decide) × (0 < locked) × (ops ≤ locked)) ⊎ ((a ≡ Rest) × (locked ≡ 0) × (ops ≤ locked)))
-lock_or_decide_is locked ops a e = by (nat_lt locked ops) refl e
-  where
-    last : (b : Bool) → nat_lt 0 locked ≡ b → ops ≤ locked → (if b then Decide else Rest) ≡ a → ((a ≡ Lock locked) × (locked < ops)) ⊎ (((a ≡ Decide) × (0 < locked) × (ops ≤ locked)) ⊎ ((a ≡ Rest) × (locked ≡ 0) × (ops ≤ locked)))
-    last true t all i = inr (inl (sym i, below 0 locked t, all))
-    last false t all i = let none = not_below 0 locked t in inr (inr (sym i, omega arith, all))
-
-    by : (b : Bool) → nat_lt locked ops ≡ b → (if b then Lock locked else (if nat_lt 0 locked then Decide else Rest)) ≡ a → ((a ≡ Lock locked) × (locked < ops)) ⊎ (((a ≡ Decide) × (0 < locked) × (ops ≤ locked)) ⊎ ((a ≡ Rest) × (locked ≡ 0) × (ops ≤ locked)))
-    by true t i = inl (sym i, below locked ops t)
-    by false t i = last (nat_lt 0 locked) refl (not_below locked ops t) i
-
--- when a client asks for a lock
-pub lock_is : (p : Phase) (locked installed ops k : ℕ) → next_action p locked installed ops ≡ Lock k → ((p ≡ Ready) ⊎ (p ≡ Locking)) × (k ≡ locked) × (locked < ops)
-lock_is Ready locked installed ops k e = elim (lock_or_decide_is locked ops (Lock k) e) [ inl h ↦ (inl refl, cc, h.1) | inr (inl h) ↦ cc | inr (inr h) ↦ cc ]
-lock_is Locking locked installed ops k e = elim (lock_or_decide_is locked ops (Lock k) e) [ inl h ↦ (inr refl, cc, h.1) | inr (inl h) ↦ cc | inr (inr h) ↦ cc ]
-lock_is Aborting locked installed ops k e = cc
-lock_is Logged locked installed ops k e = cc
-lock_is Waiting locked installed ops k e = cc
-lock_is Installing locked installed ops k e = cc
-lock_is Finished locked installed ops k e = cc
-
--- when it decides
-pub decide_is : (p : Phase) (locked installed ops : ℕ) → next_action p locked installed ops ≡ Decide → ((p ≡ Ready) ⊎ (p ≡ Locking)) × (0 < locked) × (ops ≤ locked)
-decide_is Ready locked installed ops e = elim (lock_or_decide_is locked ops Decide e) [ inl h ↦ cc | inr (inl h) ↦ (inl refl, h.1, h.2) | inr (inr h) ↦ cc ]
-decide_is Locking locked installed ops e = elim (lock_or_decide_is locked ops Decide e) [ inl h ↦ cc | inr (inl h) ↦ (inr refl, h.1, h.2) | inr (inr h) ↦ cc ]
-decide_is Aborting locked installed ops e = cc
-decide_is Logged locked installed ops e = cc
-decide_is Waiting locked installed ops e = cc
-decide_is Installing locked installed ops e = cc
-decide_is Finished locked installed ops e = cc
-
-not_release : (locked ops k : ℕ) → lock_or_decide locked ops ≡ Release k → ⊥
-not_release locked ops k e = elim (lock_or_decide_is locked ops (Release k) e) [ inl h ↦ cc | inr (inl h) ↦ cc | inr (inr h) ↦ cc ]
-
-not_install : (locked ops k : ℕ) → lock_or_decide locked ops ≡ Install k → ⊥
-not_install locked ops k e = elim (lock_or_decide_is locked ops (Install k) e) [ inl h ↦ cc | inr (inl h) ↦ cc | inr (inr h) ↦ cc ]
-
--- when it releases a lock
-pub release_is : (p : Phase) (locked installed ops k : ℕ) → next_action p locked installed ops ≡ Release k → (p ≡ Aborting) × (k ≡ locked - 1)
-release_is Ready locked installed ops k e = absurd (not_release locked ops k e)
-release_is Locking locked installed ops k e = absurd (not_release locked ops k e)
-release_is Aborting locked installed ops k e = (refl, cc)
-release_is Logged locked installed ops k e = cc
-release_is Waiting locked installed ops k e = cc
-release_is Installing locked installed ops k e = cc
-release_is Finished locked installed ops k e = cc
-
--- when it installs a value
-pub install_is : (p : Phase) (locked installed ops k : ℕ) → next_action p locked installed ops ≡ Install k → (p ≡ Installing) × (k ≡ installed)
-install_is Ready locked installed ops k e = absurd (not_install locked ops k e)
-install_is Locking locked installed ops k e = absurd (not_install locked ops k e)
-install_is Aborting locked installed ops k e = cc
-install_is Logged locked installed ops k e = cc
-install_is Waiting locked installed ops k e = cc
-install_is Installing locked installed ops k e = (refl, cc)
-install_is Finished locked installed ops k e = cc
+    by : (o : Option PlainItem) → item_of plan c x.seq ≡ o → IsAt plan c x parts o → client_step plan s c x x.phase ≡ move_of plan s c x (next_action parts (shown_now plan c x) o)
+    by (Some (catalogue.Run ops)) is here =
+        let same : script_now plan c x ≡ ops = ap script_in_item is in
+        script_moves plan s c x parts here x.phase refl ∙ ap (λ (l : List Op). move_of plan s c x (script_action parts l (shown_now plan c x) x.phase)) same
+    by (Some catalogue.Lose) is here =
+        ap (client_step plan s c x) here.0 ∙ nothing_left plan s c x (ap script_in_item is) here.1
+    by None is here = ap (client_step plan s c x) here

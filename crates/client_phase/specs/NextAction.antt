@@ -1,26 +1,34 @@
 -- What a client does next.
-use Rattle.std.specs.Prelude.{ℕ, ◌-◌, nat_lt, List, [], Option, option_and_then, unwrap_or, if◌then◌else◌}
+use Rattle.std.specs.Prelude.{ℕ, ◌-◌, nat_lt, List, Option, Some, None, if◌then◌else◌}
 use Rattle.txn_model.specs.declared.op.Op.{Op}
-use Rattle.catalogue.specs.Plan.{PlainItem, script_in}
+use Rattle.warm_split.specs.declared.parts.Parts.{Parts}
+use Rattle.catalogue.specs.Plan as plan
+use Rattle.catalogue.specs.Plan.{PlainItem}
 use Rattle.core_model.specs.declared.phase.Phase.{Phase}
 use Rattle.core_model.specs.declared.phase.Phase.TheVariants.{Ready, Locking, Aborting, Logged, Waiting, Installing, Finished}
 use Rattle.client_phase.specs.declared.action.Action.{Action}
-use Rattle.client_phase.specs.declared.action.Action.TheVariants.{Lock, Release, Decide, Install, Rest}
+use Rattle.client_phase.specs.declared.action.Action.TheVariants.{Lock, Release, Decide, LogIntent, Post, LogOutcome, Install, Lose, Rest}
+use Rattle.client_phase.specs.ColdNumbers.{cold_count, cold_number, is_cold}
+use Rattle.client_phase.specs.Shown.{PlainClient}
 
--- a client with so many locks asks for the next one of so many operations; with all of them it decides
-abbrev pub lock_or_decide : ℕ → ℕ → Action
-lock_or_decide locked ops = if nat_lt locked ops then Lock locked else (if nat_lt 0 locked then Decide else Rest)
+-- a client with so many locks asks for the next one; with all of them it decides, or logs its intent where the switch has a part in it
+abbrev pub locks_or_goes_on : Parts → List Op → ℕ → Action
+locks_or_goes_on parts ops locked =
+    if nat_lt locked (cold_count parts ops) then Lock (cold_number parts ops locked) else
+    (if is_cold parts ops then Decide else LogIntent)
 
--- by phase, how many locks it has, how many values it has installed, and how many operations its item has
-abbrev pub next_action : Phase → ℕ → ℕ → ℕ → Action
-next_action Ready locked installed ops = lock_or_decide locked ops
-next_action Locking locked installed ops = lock_or_decide locked ops
-next_action Aborting locked installed ops = Release (locked - 1)
-next_action Logged locked installed ops = Rest
-next_action Waiting locked installed ops = Rest
-next_action Installing locked installed ops = Install installed
-next_action Finished locked installed ops = Rest
+-- at a script
+abbrev pub script_action : Parts → List Op → PlainClient → Phase → Action
+script_action parts ops p Ready = locks_or_goes_on parts ops p.locked
+script_action parts ops p Locking = locks_or_goes_on parts ops p.locked
+script_action parts ops p Aborting = Release (cold_number parts ops (p.locked - 1))
+script_action parts ops p Logged = Post
+script_action parts ops p Waiting = LogOutcome
+script_action parts ops p Installing = Install (cold_number parts ops p.installed)
+script_action parts ops p Finished = Rest
 
--- the operations of an item; none where there is no item, or it is no transaction
-abbrev pub ops_in : Option PlainItem → List Op
-ops_in item = unwrap_or (option_and_then script_in item) []
+-- at its present item; a client without one rests
+abbrev pub next_action : Parts → PlainClient → Option PlainItem → Action
+next_action parts p None = Rest
+next_action parts p (Some (plan.Run ops)) = script_action parts ops p p.phase
+next_action parts p (Some plan.Lose) = Lose

@@ -1,21 +1,21 @@
 //! What is kept of a client, and what its moves make of it.
 
-ghost use Rattle.std.specs.Prelude.{◌≡◌, ◌+◌, ◌-◌, ◌<◌, ◌≤◌, ℕ, List, length, take, IfOk, None};
+ghost use Rattle.std.specs.Prelude.{◌≡◌, ◌+◌, ◌-◌, ◌<◌, ◌≤◌, length, replicate, IfOk, None};
 ghost use Rattle.txn_model.specs.ScriptCheck.{script_fault};
-ghost use Rattle.txn_model.specs.declared.op.Op.{Op};
-ghost use Rattle.txn_model.specs.declared.stamp.Seen.{Seen};
-ghost use Rattle.catalogue.specs.Plan.{Plan, items_of};
-ghost use Rattle.core_model.specs.State as model;
-ghost use Rattle.core_model.specs.Step.{aborting, installed_one};
-ghost use Rattle.client_phase.specs.NextAction.{next_action};
-ghost use Rattle.client_phase.specs.Shown.{plain_client, room_of, shown, IsTaking, with_lock, with_decision};
+ghost use Rattle.history_model.specs.History.{greater};
+ghost use Rattle.core_model.specs.Decision.{next_sub};
+ghost use Rattle.core_model.specs.State.{zero_stamp};
+ghost use Rattle.core_model.specs.declared.phase.Phase.TheVariants as phase;
+ghost use Rattle.client_phase.specs.ColdNumbers.{cold_count};
+ghost use Rattle.client_phase.specs.Shown.{plain_client, room_of, zero_pair};
+ghost use Rattle.client_phase.specs.Stepped.{begins, aborted, pairs_to_fill, granted, answered, installed};
 
-use crate::action::Action;
-use crate::found::note;
+use crate::cold_numbers::cold_count;
 use core_model::Phase;
 use history_model::greater;
 use std::alloc::Global;
-use txn_model::{MOST_OPS, NoMemory, Pairs, Script, Seen, Stamp};
+use txn_model::{MOST_OPS, NoMemory, Pair, Pairs, Script, Seen, Stamp};
+use warm_split::{Parts, fill_before};
 
 const ZERO_STAMP: Stamp = Stamp { number: 0, sub: 0 };
 
@@ -29,22 +29,23 @@ pub struct ClientState {
     pub refused: u8,
     /// How many locks of this try were granted and not released in aborting.
     pub locked: u8,
-    /// How many values of the decided transaction are installed.
+    /// How many values of the present transaction are installed.
     pub installed: u8,
-    /// The stamp of its last decided transaction; 0.0 before the first.
+    /// The stamp of its last transaction that is decided or answered; 0.0 before the first.
     pub last: Stamp,
-    /// The greatest stamp that this try read; 0.0 unless it takes locks.
+    /// The greatest stamp that this try read, until its transaction has a stamp; else 0.0.
     pub met: Stamp,
-    /// While it takes locks, a pair for each operation, which has only what was read with the lock, and
-    /// zeros before; from the last lock on the reply. Empty in other phases, with room for 16.
+    /// From its first lock or its intent on, a pair for each operation: an operation on a host has what was read
+    /// with its lock, and every other number is 0 until the last lock is granted, when the operations before the
+    /// switch are executed. While it installs, the reply. Empty in other phases, with room for 16.
     pub pairs: Pairs,
 }
 
 impl ClientState {
     /// A client at the first of this many items, or finished where there is none.
     pub fn fresh(alloc: Global, items: u32) -> Result<ClientState, NoMemory>
-        ensures client { IfOk result (λ state. (later : List Op) → plain_client state ≡ shown later (model.at_item items 1 model.zero_stamp)) }
-        ensures space { IfOk result (λ state. MOST_OPS ≤ room_of state) }
+        ensures client { IfOk result (λ state. plain_client state ≡ begins items 1 zero_stamp) }
+        ensures room { IfOk result (λ state. 16 ≤ room_of state) }
     {
         Ok(ClientState {
             phase: phase_at(items, 1),
@@ -58,114 +59,37 @@ impl ClientState {
         })
     }
 
-    /// What the client does next at an item with this many operations; 0 where the item is no
-    /// transaction.
-    pub fn next_action(&self, ops: usize) -> Action
-        ensures { result ≡ next_action self.now.phase self.now.locked self.now.installed ops }
-    {
-        match self.phase {
-            Phase::Ready | Phase::Locking => {
-                if usize::from(self.locked) < ops {
-                    Action::Lock(self.locked)
-                } else if self.locked > 0 {
-                    Action::Decide
-                } else {
-                    Action::Rest
-                }
-            }
-            Phase::Aborting => Action::Release(self.locked.saturating_sub(1)),
-            Phase::Installing => Action::Install(self.installed),
-            Phase::Logged | Phase::Waiting | Phase::Finished => Action::Rest,
-        }
-    }
-
-    /// The lock of the script's next operation is granted, and this was read under it. With the last lock
-    /// the pairs become the reply.
-    pub fn grant(&mut self, script: &Script, seen: Seen)
+    /// The lock of this operation is granted, and this was read with it.
+    pub(crate) fn grant(&mut self, script: &Script, parts: &Parts, op: u8, seen: Seen)
         requires fit { script_fault script.now.items ≡ None }
-        requires next { self.old.locked < length script.now.items }
-        requires found { 1 ≤ self.old.locked → length self.old.pairs.items ≡ length script.now.items }
-        requires space { MOST_OPS ≤ room_of self.old }
-        ensures client { (x : model.ClientState) → IsTaking x x.phase → plain_client self.old ≡ shown script.now.items x
-            → plain_client self.new ≡ shown script.now.items (with_lock seen x) }
-        ensures space { room_of self.new ≡ room_of self.old }
+        requires there { op < length script.now.items }
+        requires next { self.old.locked < cold_count parts.now script.now.items }
+        requires pairs { 1 ≤ self.old.locked → length self.old.pairs.items ≡ length script.now.items }
+        requires room { 16 ≤ room_of self.old }
+        ensures client { plain_client self.new ≡ granted parts.now script.now.items op seen (plain_client self.old) }
+        ensures room { room_of self.new ≡ room_of self.old }
     {
-        note(script, self.locked, seen, &mut self.pairs);
+        self.prepare(script.len() as u8);
+        let was = seen.value;
+        self.pairs.set(op, Pair { was, now: 0 });
         self.phase = Phase::Locking;
         self.locked += 1;
         self.met = greater(self.met, seen.stamp);
-    }
-
-    /// The lock of its next operation is refused: the try ends, or its locks are to be released first.
-    /// The client has this many items, and this many tries for each.
-    pub fn refuse(&mut self, items: u32, tries: u8)
-        requires tries { self.old.refused < tries }
-        requires seq { self.old.seq < u32.MAX }
-        ensures client { (plan : Plan) (c : ℕ) (x : model.ClientState) (ops later : List Op) → length (items_of plan c) ≡ items → plan.tries ≡ tries → plain_client self.old ≡ shown ops x
-            → plain_client self.new ≡ shown later (aborting plan c x x.noted) }
-        ensures space { room_of self.new ≡ room_of self.old }
-    {
-        self.abort(items, tries);
-    }
-
-    /// The lock that it took last is released in aborting: the try ends, or more locks are to be
-    /// released. The client has this many items, and this many tries for each.
-    pub fn release(&mut self, items: u32, tries: u8)
-        requires locked { 1 ≤ self.old.locked }
-        requires tries { self.old.refused < tries }
-        requires seq { self.old.seq < u32.MAX }
-        ensures client { (plan : Plan) (c : ℕ) (x : model.ClientState) (ops later : List Op) → length (items_of plan c) ≡ items → plan.tries ≡ tries → plain_client self.old ≡ shown ops x
-            → plain_client self.new ≡ shown later (aborting plan c x (take (length x.noted - 1) x.noted)) }
-        ensures space { room_of self.new ≡ room_of self.old }
-    {
-        self.locked -= 1;
-        self.abort(items, tries);
-    }
-
-    /// All locks are held, and the transaction is decided, above its client's last one and above all that
-    /// it read. Its pairs are the reply.
-    pub fn decide(&mut self)
-        requires last { self.old.last.sub < u32.MAX }
-        requires met { self.old.met.sub < u32.MAX }
-        ensures client { (x : model.ClientState) (ops later : List Op) → x.phase ≡ Phase.Locking → length x.noted ≡ length ops → plain_client self.old ≡ shown ops x
-            → plain_client self.new ≡ shown later (with_decision ops x) }
-        ensures space { room_of self.new ≡ room_of self.old }
-    {
-        let above = greater(self.last, self.met);
-        self.phase = Phase::Installing;
-        self.last = Stamp {
-            number: above.number,
-            sub: above.sub + 1,
-        };
-        self.met = ZERO_STAMP;
-    }
-
-    /// One more value of the reply is installed. The transaction has this many operations; behind the
-    /// last one its client goes on to its next item, of this many.
-    pub fn install(&mut self, ops: u8, items: u32)
-        requires left { self.old.installed < ops }
-        requires seq { self.old.seq < u32.MAX }
-        ensures client { (plan : Plan) (c : ℕ) (x : model.ClientState) (script later : List Op) → length (items_of plan c) ≡ items → x.phase ≡ Phase.Installing → plain_client self.old ≡ shown script x
-            → plain_client self.new ≡ shown later (installed_one plan c x ops) }
-        ensures space { room_of self.new ≡ room_of self.old }
-    {
-        self.installed += 1;
-        if self.installed == ops {
-            self.begin_item(items);
+        if self.locked == cold_count(script, parts) {
+            fill_before(script, parts, &mut self.pairs);
         }
     }
 
-    /// Goes on in aborting, with the locks that are left.
-    fn abort(&mut self, items: u32, tries: u8)
+    /// Goes on in aborting, with the locks that are left: the try ends, or they are to be released first. The
+    /// client has this many items, and this many tries for each.
+    pub(crate) fn abort(&mut self, items: u32, tries: u8)
         requires tries { self.old.refused < tries }
-        requires seq { self.old.seq < u32.MAX }
-        ensures client { (plan : Plan) (c : ℕ) (x : model.ClientState) (ops later : List Op) (left : List Seen) → length (items_of plan c) ≡ items → plan.tries ≡ tries → length left ≡ self.old.locked
-            → plain_client self.old ≡ record (shown ops x) { locked = self.old.locked }
-            → plain_client self.new ≡ shown later (aborting plan c x left) }
-        ensures space { room_of self.new ≡ room_of self.old }
+        requires seq { self.old.seq < 4294967295 }
+        ensures client { plain_client self.new ≡ aborted items tries self.old.locked (plain_client self.old) }
+        ensures room { room_of self.new ≡ room_of self.old }
     {
-        self.pairs.clear();
         self.met = ZERO_STAMP;
+        self.pairs.clear();
         if self.locked > 0 {
             self.phase = Phase::Aborting;
         } else if self.refused + 1 == tries {
@@ -177,11 +101,81 @@ impl ClientState {
         }
     }
 
+    /// The lock that it took last is released in aborting.
+    pub(crate) fn release(&mut self, items: u32, tries: u8)
+        requires locked { 1 ≤ self.old.locked }
+        requires tries { self.old.refused < tries }
+        requires seq { self.old.seq < 4294967295 }
+        ensures client { plain_client self.new ≡ aborted items tries (self.old.locked - 1) (plain_client self.old) }
+        ensures room { room_of self.new ≡ room_of self.old }
+    {
+        self.locked -= 1;
+        self.abort(items, tries);
+    }
+
+    /// The transaction is decided, above its client's last one and above all that it read. Its pairs are the
+    /// reply.
+    pub(crate) fn decide(&mut self)
+        requires last { self.old.last.sub < 4294967295 }
+        requires met { self.old.met.sub < 4294967295 }
+        ensures client { plain_client self.new ≡ record (plain_client self.old) { phase = phase.Installing; last = next_sub (greater self.old.last self.old.met); met = zero_stamp } }
+        ensures room { room_of self.new ≡ room_of self.old }
+    {
+        let above = greater(self.last, self.met);
+        self.phase = Phase::Installing;
+        self.last = Stamp {
+            number: above.number,
+            sub: above.sub + 1,
+        };
+        self.met = ZERO_STAMP;
+    }
+
+    /// The log has what the script of this many operations is about to do in the switch.
+    pub(crate) fn log_intent(&mut self, len: u8)
+        requires few { len ≤ 16 }
+        requires room { 16 ≤ room_of self.old }
+        ensures client { plain_client self.new ≡ record (plain_client self.old) { phase = phase.Logged; pairs = pairs_to_fill len (plain_client self.old) } }
+        ensures room { room_of self.new ≡ room_of self.old }
+    {
+        self.prepare(len);
+        self.phase = Phase::Logged;
+    }
+
+    /// Its packet, which has this number, is answered, and its pairs are the reply. The client has this many items.
+    pub(crate) fn answer(&mut self, script: &Script, parts: &Parts, items: u32, number: u64)
+        requires fit { script_fault script.now.items ≡ None }
+        requires seq { self.old.seq < 4294967295 }
+        ensures client { plain_client self.new ≡ answered parts.now script.now.items items number (plain_client self.old) }
+        ensures room { room_of self.new ≡ room_of self.old }
+    {
+        self.last = Stamp { number, sub: 0 };
+        if cold_count(script, parts) == 0 {
+            self.begin_item(items);
+        } else {
+            self.phase = Phase::Installing;
+            self.met = ZERO_STAMP;
+        }
+    }
+
+    /// One more value of the reply is installed; behind the last one its client goes on to its next item.
+    pub(crate) fn install(&mut self, script: &Script, parts: &Parts, items: u32)
+        requires fit { script_fault script.now.items ≡ None }
+        requires left { self.old.installed < cold_count parts.now script.now.items }
+        requires seq { self.old.seq < 4294967295 }
+        ensures client { plain_client self.new ≡ installed parts.now script.now.items items (plain_client self.old) }
+        ensures room { room_of self.new ≡ room_of self.old }
+    {
+        self.installed += 1;
+        if self.installed == cold_count(script, parts) {
+            self.begin_item(items);
+        }
+    }
+
     /// Goes on to its next item, where there is one of this many.
-    fn begin_item(&mut self, items: u32)
-        requires seq { self.old.seq < u32.MAX }
-        ensures client { (later : List Op) → plain_client self.new ≡ shown later (model.at_item items (self.old.seq + 1) self.old.last) }
-        ensures space { room_of self.new ≡ room_of self.old }
+    pub(crate) fn begin_item(&mut self, items: u32)
+        requires seq { self.old.seq < 4294967295 }
+        ensures client { plain_client self.new ≡ begins items (self.old.seq + 1) self.old.last }
+        ensures room { room_of self.new ≡ room_of self.old }
     {
         self.seq += 1;
         self.phase = phase_at(items, self.seq);
@@ -191,10 +185,34 @@ impl ClientState {
         self.met = ZERO_STAMP;
         self.pairs.clear();
     }
+
+    /// Makes its pairs this many zeros, unless it has a lock.
+    fn prepare(&mut self, len: u8)
+        requires few { len ≤ 16 }
+        requires room { 16 ≤ room_of self.old }
+        ensures client { plain_client self.new ≡ record (plain_client self.old) { pairs = pairs_to_fill len (plain_client self.old) } }
+        ensures room { room_of self.new ≡ room_of self.old }
+    {
+        if self.locked == 0 {
+            make_zeros(len, &mut self.pairs);
+        }
+    }
+}
+
+/// Makes it this many pairs of zeros, in the room that the pairs have.
+fn make_zeros(len: u8, pairs: &mut Pairs)
+    requires room { len ≤ length pairs.old.items + pairs.old.spare }
+    ensures items { pairs.new.items ≡ replicate len zero_pair }
+    ensures room { length pairs.new.items + pairs.new.spare ≡ length pairs.old.items + pairs.old.spare }
+{
+    pairs.clear();
+    for _ in 0..len {
+        pairs.push(Pair::ZERO);
+    }
 }
 
 fn phase_at(items: u32, seq: u32) -> Phase
-    ensures { result ≡ (model.at_item items seq model.zero_stamp).phase }
+    ensures { result ≡ (begins items seq zero_stamp).phase }
 {
     if seq <= items {
         Phase::Ready

@@ -1,15 +1,39 @@
-//! Laws on what clients do next, each a function with an empty body whose contract is the law.
+//! Laws on clients, each a function with an empty body whose contract is the law: what is kept of a client is
+//! what the client of the fabric's model shows.
 
-ghost use Rattle.std.specs.Prelude.{◌≡◌, ℕ, length};
-ghost use Rattle.catalogue.specs.Plan.{Plan};
-ghost use Rattle.core_model.specs.Locks.{cold_ops};
-ghost use Rattle.core_model.specs.State.{ClientState, State, script_now};
-ghost use Rattle.core_model.specs.Step.{client_step};
-ghost use Rattle.client_phase.specs.Moves.{move_of};
-ghost use Rattle.client_phase.specs.NextAction.{next_action};
+ghost use Rattle.client_phase.specs.Laws.{ActionsAreMoves, LocksAreTheModels, CommitsAreTheModels, PairsAreFound, ClientsFitTheirScripts, RowsAreStepped};
 
 /// What a client does next is its move in the model.
 pub fn actions_are_moves()
-    ensures { (plan : Plan) (s : State) (c : ℕ) (x : ClientState) → let ops = length (cold_ops plan.layout (script_now plan c x)) in
-        client_step plan s c x x.phase ≡ move_of plan s c x (next_action x.phase (length x.noted) x.installed ops) }
+    ensures { ActionsAreMoves }
+{}
+
+/// A script takes as many locks as in the model, and the operation that a client's action names is the one for
+/// which the model's client takes, releases or installs.
+pub fn locks_are_the_models()
+    ensures { LocksAreTheModels }
+{}
+
+/// A client with all its locks decides where the model's client does, and else logs what it is about to do in the
+/// switch.
+pub fn commits_are_the_models()
+    ensures { CommitsAreTheModels }
+{}
+
+/// With all its locks, a client's pairs have what was read with each of them, and the operations before the switch
+/// are executed.
+pub fn pairs_are_found()
+    ensures { PairsAreFound }
+{}
+
+/// Each client of a state that some moves make of the opening of a sound session is at its present item, and what
+/// is kept of it fits that item.
+pub fn clients_fit_their_scripts()
+    ensures { ClientsFitTheirScripts }
+{}
+
+/// What is shown of a client behind each of its moves in the model is what its action makes of what was shown
+/// before.
+pub fn moves_are_stepped()
+    ensures { RowsAreStepped }
 {}

@@ -1,5 +1,5 @@
--- The reply of a script whose operations find given values.
-use Rattle.std.proofs.Common.{◌≡◌, ℕ, suc, ◌+◌, ℤ, Bool, true, false, ◌||◌, ◌==◌, List, [], ◌∷◌, ◌++◌, length, length-append, take, Option, Some, None, MatchBool, if◌then◌else◌, refl, sym, ap, subst, ◌∙◌, arith}
+-- Scripts that name each tuple once.
+use Rattle.std.proofs.Common.{◌≡◌, ℕ, ◌+◌, Bool, true, false, ◌||◌, ◌==◌, List, [], ◌∷◌, ◌++◌, length, length-append, take, Option, Some, None, if◌then◌else◌, refl, sym, ap, subst, ◌∙◌, arith}
 use Rattle.std.specs.List.{list_any, AllByRecursion, position_from, enumerate_from}
 use Rattle.std.proofs.Math.Seq.{take-append_seam}
 use Rattle.std.proofs.lemmas.List.{append_assoc}
@@ -9,26 +9,13 @@ use Rattle.txn_model.specs.ScriptCheck.{names, first_repeat}
 use Rattle.txn_model.specs.declared.op.Op.{Op}
 use Rattle.txn_model.specs.declared.op.TupleId.{TupleId}
 use Rattle.txn_model.specs.declared.pairs.Pair.{Pair}
-use Rattle.txn_model.specs.Serial.{pair_of}
 use Rattle.txn_model.proofs.FirstPlaces.{first_counted}
-use Rattle.history_model.specs.Chain.{Step, steps_of, Chain, IsLocalFrom, IsAbsent}
-use Rattle.history_model.proofs.InsertionLaws.{absent_chain}
-use Rattle.core_model.specs.Decision.{pairs_from}
+use Rattle.history_model.specs.Chain.{steps_of, IsAbsent}
 
 -- neither of two is true
 pub or_false : (a b : Bool) → (a || b) ≡ false → (a ≡ false) × (b ≡ false)
 or_false true b e = cc
 or_false false b e = (refl, e)
-
-pub length-pairs_from : (done : List Pair) (ops : List Op) (values : List ℤ) → length values ≡ length ops → length (pairs_from done ops values) ≡ length ops
-length-pairs_from done [] values h = refl
-length-pairs_from done (op ∷ ops) [] h = absurd (omega arith)
-length-pairs_from done (op ∷ ops) (v ∷ values) h = ap suc (length-pairs_from (done ++ pair_of op done v ∷ []) ops values (omega arith))
-
-pub local-pairs_from : (done : List Pair) (ops : List Op) (values : List ℤ) → length values ≡ length ops → IsLocalFrom done ops (pairs_from done ops values)
-local-pairs_from done [] values h = tt
-local-pairs_from done (op ∷ ops) [] h = absurd (omega arith)
-local-pairs_from done (op ∷ ops) (v ∷ values) h = (refl, local-pairs_from (done ++ pair_of op done v ∷ []) ops values (omega arith))
 
 -- no operation names the tuple of another one
 abbrev pub IsDistinct : List Op → Type 0
@@ -41,29 +28,8 @@ absent-steps_of t [] reply h = tt
 absent-steps_of t (op ∷ ops) [] h = tt
 absent-steps_of t (op ∷ ops) (p ∷ reply) h = let parts = or_false (op.tuple.0 == t.0) (names ops t) h in (parts.0, absent-steps_of t ops reply parts.1)
 
--- each operation on the tuple finds this value
-abbrev pub AllFind : TupleId → ℤ → List Op → List ℤ → Type 0
-AllFind t w [] values = Unit {0}
-AllFind t w (op ∷ ops) [] = Unit {0}
-AllFind t w (op ∷ ops) (v ∷ values) = ((op.tuple.0 == t.0) ≡ true → v ≡ w) × AllFind t w ops values
-
 pub same_names : (ops : List Op) (a b : TupleId) → (a.0 == b.0) ≡ true → names ops a ≡ false → names ops b ≡ false
 same_names ops a b e h = let n : a.0 ≡ b.0 = grind (arith, nat_tests) in subst (λ (k : ℕ). list_any (λ op. op.tuple.0 == k) ops ≡ false) n h
-
--- the decided script goes on from the value at the tuple
-pub chain-pairs_from : (t : TupleId) (w : ℤ) (done : List Pair) (ops : List Op) (values : List ℤ) → IsDistinct ops → AllFind t w ops values → Chain t w (steps_of ops (pairs_from done ops values))
-chain-pairs_from t w done [] values distinct find = tt
-chain-pairs_from t w done (op ∷ ops) [] distinct find = tt
-chain-pairs_from t w done (op ∷ ops) (v ∷ values) distinct find =
-    let p = pair_of op done v in
-    let rest = pairs_from (done ++ p ∷ []) ops values in
-    go (op.tuple.0 == t.0) p (steps_of ops rest)
-    (λ e. (find.0 e, (absent_chain t p.now (steps_of ops rest) (absent-steps_of t ops rest (same_names ops op.tuple t e distinct.0))).0))
-    (chain-pairs_from t w (done ++ p ∷ []) ops values distinct.1 find.1)
-  where
-    go : (b : Bool) (p : Pair) (steps : List Step) → (b ≡ true → (p.was ≡ w) × Chain t p.now steps) → Chain t w steps → MatchBool b ((p.was ≡ w) × Chain t p.now steps) (Chain t w steps)
-    go true p steps named other = named refl
-    go false p steps named other = other
 
 skip_if : {X : Type 0} (b : Bool) (x : X) (r : Option X) → (if b then Some x else r) ≡ None → (b ≡ false) × (r ≡ None)
 skip_if true x r h = cc

@@ -1,11 +1,11 @@
--- The client that the step finds in the way is the least one.
+-- The client that is found in the way is the least one.
 use Rattle.std.proofs.Common.{◌≡◌, ◌≢◌, ℕ, zero, suc, ◌+◌, ◌<◌, ◌==◌, ◌&&◌, Bool, true, false, not, List, [], ◌∷◌, get_or, Option, Some, None, refl, sym, ap, subst, ◌∙◌, arith, if◌then◌else◌}
 use Rattle.std.specs.List.{list_any}
 use Rattle.txn_model.specs.declared.op.Op.{Op}
 use Rattle.catalogue.specs.Plan.{Plan}
 use Rattle.host_locks.specs.Conflict.{IsLeastInTheWay, IsFree}
-use Rattle.core_model.specs.Locks.{held, clashes, holder_from, holder, in_the_way}
-use Rattle.core_model.specs.State.{ClientState, State, at_item, client_at, zero_stamp}
+use Rattle.core_model.specs.Locks.{held, clashes, holder_from}
+use Rattle.core_model.specs.State.{ClientState, at_item, zero_stamp}
 use Rattle.core_model.proofs.Granted.{differ}
 
 -- whether the client at a place of a list that begins with client k stands in the way
@@ -82,52 +82,56 @@ finds plan me op k (x ∷ clients) = by (not (k == me)) (list_any (clashes op) (
     by true false ea eb rest = rest (λ n. eb)
     by false b ea eb rest = rest (λ n. absurd (n (own k me ea)))
 
+-- the locks of a client, by its number, stand in the way
+abbrev pub blocks : Plan → List ClientState → Op → ℕ → Bool
+blocks plan clients op c = list_any (clashes op) (held plan c (get_or clients c (at_item 0 1 zero_stamp)))
+
 -- what the search among all clients answers, by their numbers
-module _ (plan : Plan) (s : State) (me : ℕ) (op : Op) where
+module _ (plan : Plan) (clients : List ClientState) (me : ℕ) (op : Op) where
   none_before : (j : ℕ) → 0 + j ≡ j
   none_before j = omega arith
 
-  as_numbered : (j : ℕ) → stands plan op 0 s.clients j ≡ in_the_way plan s op j
-  as_numbered j = ap (λ (m : ℕ). list_any (clashes op) (held plan m (client_at s j))) (none_before j)
+  as_numbered : (j : ℕ) → stands plan op 0 clients j ≡ blocks plan clients op j
+  as_numbered j = ap (λ (m : ℕ). list_any (clashes op) (held plan m (get_or clients j (at_item 0 1 zero_stamp)))) (none_before j)
 
-  by_number : (o : Option ℕ) → Finds plan me op 0 s.clients o → (b : ℕ) → o ≡ Some b → IsLeastInTheWay (in_the_way plan s op) me b
+  by_number : (o : Option ℕ) → Finds plan me op 0 clients o → (b : ℕ) → o ≡ Some b → IsLeastInTheWay (blocks plan clients op) me b
   by_number None found b e = cc
   by_number (Some by) found b e =
       let is : by ≡ b = cc in
       let same : found.j ≡ b = sym (none_before found.j) ∙ sym found.is ∙ is in
       record {
         another = λ own. found.another (none_before found.j ∙ same ∙ own);
-        conflict = subst (λ (m : ℕ). in_the_way plan s op m ≡ true) same (sym (as_numbered found.j) ∙ found.conflict);
+        conflict = subst (λ (m : ℕ). blocks plan clients op m ≡ true) same (sym (as_numbered found.j) ∙ found.conflict);
         least = λ d lt n. sym (as_numbered d) ∙ found.least d (omega (arith, lt, same)) (λ own. n (sym (none_before d) ∙ own));
       }
 
-  free_by_number : (o : Option ℕ) → Finds plan me op 0 s.clients o → o ≡ None → IsFree (in_the_way plan s op) me
+  free_by_number : (o : Option ℕ) → Finds plan me op 0 clients o → o ≡ None → IsFree (blocks plan clients op) me
   free_by_number None free e = λ d n. sym (as_numbered d) ∙ free d (λ own. n (sym (none_before d) ∙ own))
   free_by_number (Some by) free e = cc
 
-  pub least_of_holder : (by : ℕ) → holder plan s me op ≡ Some by → IsLeastInTheWay (in_the_way plan s op) me by
-  least_of_holder by is = by_number (holder plan s me op) (finds plan me op 0 s.clients) by is
+  pub least_of_holder : (by : ℕ) → holder_from plan me op 0 clients ≡ Some by → IsLeastInTheWay (blocks plan clients op) me by
+  least_of_holder by is = by_number (holder_from plan me op 0 clients) (finds plan me op 0 clients) by is
 
-  pub free_of_holder : holder plan s me op ≡ None → IsFree (in_the_way plan s op) me
-  free_of_holder is = free_by_number (holder plan s me op) (finds plan me op 0 s.clients) is
+  pub free_of_holder : holder_from plan me op 0 clients ≡ None → IsFree (blocks plan clients op) me
+  free_of_holder is = free_by_number (holder_from plan me op 0 clients) (finds plan me op 0 clients) is
 
   -- there is only one such client
-  only_one : (a b : ℕ) → IsLeastInTheWay (in_the_way plan s op) me a → IsLeastInTheWay (in_the_way plan s op) me b → a < b → ⊥
+  only_one : (a b : ℕ) → IsLeastInTheWay (blocks plan clients op) me a → IsLeastInTheWay (blocks plan clients op) me b → a < b → ⊥
   only_one a b first second lt = differ first.conflict (second.least a lt first.another)
 
-  pub holder_of_least : (by : ℕ) → IsLeastInTheWay (in_the_way plan s op) me by → holder plan s me op ≡ Some by
-  holder_of_least by least = by_case (holder plan s me op) refl
+  pub holder_of_least : (by : ℕ) → IsLeastInTheWay (blocks plan clients op) me by → holder_from plan me op 0 clients ≡ Some by
+  holder_of_least by least = by_case (holder_from plan me op 0 clients) refl
     where
       equal : (a b : ℕ) → (a < b → ⊥) → (b < a → ⊥) → a ≡ b
       equal a b f g = grind arith
 
-      by_case : (o : Option ℕ) → holder plan s me op ≡ o → o ≡ Some by
+      by_case : (o : Option ℕ) → holder_from plan me op 0 clients ≡ o → o ≡ Some by
       by_case None is = absurd (differ least.conflict (free_of_holder is by least.another))
       by_case (Some b) is = let found = least_of_holder b is in ap Some (equal b by (only_one b by found least) (only_one by b least found))
 
-  pub holder_of_free : IsFree (in_the_way plan s op) me → holder plan s me op ≡ None
-  holder_of_free free = by_case (holder plan s me op) refl
+  pub holder_of_free : IsFree (blocks plan clients op) me → holder_from plan me op 0 clients ≡ None
+  holder_of_free free = by_case (holder_from plan me op 0 clients) refl
     where
-      by_case : (o : Option ℕ) → holder plan s me op ≡ o → o ≡ None
+      by_case : (o : Option ℕ) → holder_from plan me op 0 clients ≡ o → o ≡ None
       by_case None is = refl
       by_case (Some b) is = let found = least_of_holder b is in absurd (differ found.conflict (free b found.another))

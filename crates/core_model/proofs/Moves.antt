@@ -1,16 +1,13 @@
 -- What a move changes: one client. And what it means that no lock stands in the way.
-use Rattle.std.proofs.Common.{◌≡◌, ◌≢◌, ℕ, zero, suc, ◌+◌, ◌<◌, ◌≤◌, ◌==◌, ◌&&◌, Bool, true, false, not, List, [], ◌∷◌, length, nat_le, take, drop, set, get_or, slice_get, Option, Some, None, refl, sym, ap, subst, ◌∙◌, arith, if◌then◌else◌}
+use Rattle.std.proofs.Common.{◌≡◌, ◌≢◌, ℕ, zero, suc, ◌+◌, ◌<◌, ◌≤◌, ◌==◌, ◌&&◌, Bool, true, false, not, List, [], ◌∷◌, length, take, drop, set, get_or, slice_get, Option, Some, None, refl, sym, ap, subst, ◌∙◌, arith, if◌then◌else◌}
 use Rattle.std.specs.List.{list_any}
 use Rattle.std.proofs.lemmas.List.{get_or-set_same, get_or-set_other}
 use Rattle.txn_model.specs.declared.op.Op.{Op}
 use Rattle.txn_model.specs.declared.stamp.Seen.{Seen}
-use Rattle.catalogue.specs.Plan.{Plan, items_of}
-use Rattle.core_model.specs.declared.phase.Phase.{Phase}
-use Rattle.core_model.specs.declared.phase.Phase.TheVariants.{Ready, Installing, Finished}
+use Rattle.catalogue.specs.Plan.{Plan}
 use Rattle.core_model.specs.State.{ClientState, at_item, zero_stamp, script_now}
 use Rattle.core_model.specs.Locks.{cold_ops, held, clashes, holder_from}
-use Rattle.core_model.specs.Step.{aborting, try_ended, next_item}
-use Rattle.core_model.specs.Facts.{Stands, FitsPhase}
+use Rattle.core_model.specs.Facts.{Stands}
 use Rattle.core_model.proofs.Decided.{or_false}
 use Rattle.core_model.proofs.Fewer.{KeepsLocks, OthersStay}
 
@@ -88,58 +85,3 @@ front_taken (suc n) (s ∷ l) = let rest = front_taken n l in record { at = go r
     go : IsFrontOf (take n l) l → (k : ℕ) (seen : Seen) → slice_get (s ∷ take n l) k ≡ Some seen → slice_get (s ∷ l) k ≡ Some seen
     go rest zero seen is = is
     go rest (suc k) seen is = rest.at k seen is
-
--- what holds of a client that isn't decided, and has no further lock
-pub record Fewer (plan : Plan) (c : ℕ) (x y : ClientState) : Type 0 where
-  pub keeps : KeepsLocks plan c x y
-  pub undecided : y.phase ≢ Installing
-  pub fit : FitsPhase plan c y y.phase
-  pub last : y.last ≡ x.last
-
--- at the beginning of an item
-pub at_beginning : (plan : Plan) (c items seq : ℕ) (x : ClientState) → Fewer plan c x (at_item items seq x.last)
-at_beginning plan c items seq x = begun (nat_le seq items) refl
-  where
-    ready : Ready ≡ Installing → ⊥
-    ready i = cc
-
-    finished : Finished ≡ Installing → ⊥
-    finished i = cc
-
-    begun : (b : Bool) → nat_le seq items ≡ b → Fewer plan c x (at_item items seq x.last)
-    begun true e = record {
-      keeps = none_kept plan c x (at_item items seq x.last) refl;
-      undecided = λ i. ready (ap (λ (t : Bool). if t then Ready else Finished) (sym e) ∙ i);
-      fit = subst (λ (p : Phase). FitsPhase plan c (at_item items seq x.last) p) (ap (λ (t : Bool). if t then Ready else Finished) (sym e)) (refl, refl);
-      last = refl;
-    }
-    begun false e = record {
-      keeps = none_kept plan c x (at_item items seq x.last) refl;
-      undecided = λ i. finished (ap (λ (t : Bool). if t then Ready else Finished) (sym e) ∙ i);
-      fit = subst (λ (p : Phase). FitsPhase plan c (at_item items seq x.last) p) (ap (λ (t : Bool). if t then Ready else Finished) (sym e)) (refl, refl);
-      last = refl;
-    }
-
--- where a try ends
-pub try_is_over : (plan : Plan) (c : ℕ) (x : ClientState) → Fewer plan c x (try_ended plan c x)
-try_is_over plan c x = over (x.refused + 1 == plan.tries)
-  where
-    again : ClientState
-    again = record { phase = Ready; seq = x.seq; refused = x.refused + 1; noted = []; installed = 0; last = x.last; reply = [] }
-
-    over : (b : Bool) → Fewer plan c x (if b then next_item plan c x else record { phase = Ready; seq = x.seq; refused = x.refused + 1; noted = []; installed = 0; last = x.last; reply = [] })
-    over true = at_beginning plan c (length (items_of plan c)) (x.seq + 1) x
-    over false = record { keeps = none_kept plan c x again refl; undecided = λ i. cc; fit = (refl, refl); last = refl }
-
--- where it aborts with the first of its locks
-pub aborts : (plan : Plan) (c : ℕ) (x : ClientState) (front : List Seen) → IsFrontOf front x.noted → x.installed ≡ 0 → length x.noted ≤ length (cold_ops plan.layout (script_now plan c x)) → Fewer plan c x (aborting plan c x front)
-aborts plan c x [] is none room = try_is_over plan c x
-aborts plan c x (seen ∷ others) is none room = record {
-  keeps = record {
-    lock = λ k op st. record { from = st.from; to = omega (arith, st.to, is.fewer); is = st.is };
-    noted = λ k s op st at. is.at k s at;
-  };
-  undecided = λ i. cc;
-  fit = (none, omega arith, omega (arith, is.fewer, room));
-  last = refl;
-}

@@ -136,12 +136,6 @@ pub noted_at_most : (noted : List Seen) (stamp : Stamp) → AllByRecursion (λ s
 noted_at_most [] stamp = tt
 noted_at_most (seen ∷ noted) stamp = (AtMost-trans seen.stamp (greater stamp seen.stamp) (greatest stamp (seen ∷ noted)) (AtMost-greater_right stamp seen.stamp) (AtMost-greatest noted (greater stamp seen.stamp)), noted_at_most noted (greater stamp seen.stamp))
 
-pub nat_cmp_cases : (m n : ℕ) → ((nat_cmp m n ≡ Less) × (m < n)) ⊎ (((nat_cmp m n ≡ Equal) × (m ≡ n)) ⊎ ((nat_cmp m n ≡ Greater) × (n < m)))
-nat_cmp_cases m n = grind (arith, nat_tests)
-
-pub not_below : (a b : Stamp) → Below a b → AtMost b a → ⊥
-not_below a b below most = most below
-
 -- an entry with a lower stamp stands before
 pub entry_cmp-Below : (e f : Entry) → Below e.stamp f.stamp → entry_cmp e f ≡ Less
 entry_cmp-Below e f h = ap (λ (r : Ordering). ordering_then r (nat_cmp e.client f.client)) h

@@ -1,8 +1,8 @@
 -- The steps of a script with its pairs, and those of a history.
-use Rattle.std.proofs.Common.{◌≡◌, ℕ, zero, suc, ℤ, ◌==◌, ◌&&◌, ◌||◌, Bool, true, false, not, List, [], ◌∷◌, ◌++◌, length, slice_get, unwrap_or, Some, if◌then◌else◌, refl, sym, ap, subst, ◌∙◌, arith}
+use Rattle.std.proofs.Common.{◌≡◌, ℕ, zero, suc, ℤ, ◌==◌, ◌&&◌, ◌||◌, Bool, true, false, not, List, [], ◌∷◌, ◌++◌, slice_get, unwrap_or, Some, if◌then◌else◌, refl, sym, ap, subst, ◌∙◌, arith}
 use Rattle.std.specs.List.{AllByRecursion}
 use Rattle.txn_model.specs.ScriptCheck.{names, is_read}
-use Rattle.txn_model.specs.Serial.{effect, pair_of}
+use Rattle.txn_model.specs.Serial.{effect}
 use Rattle.txn_model.specs.declared.op.Act.{Act}
 use Rattle.txn_model.specs.declared.op.Act.TheVariants.{Read, Put, Add, Choose}
 use Rattle.txn_model.specs.declared.op.Op.{Op}
@@ -11,13 +11,9 @@ use Rattle.txn_model.specs.declared.pairs.Pair.{Pair}
 use Rattle.history_model.specs.Chain.{Step, steps_of, all_steps, names_tuple, last_value, IsLocal, IsLocalFrom, IsAbsent, IsQuiet}
 use Rattle.history_model.proofs.InsertionLaws.{absent_chain}
 use Rattle.history_model.specs.History.{History}
-use Rattle.stage_layout.specs.Late.{is_hot}
-use Rattle.stage_layout.specs.declared.layout.LayoutRow.{LayoutRow}
 use Rattle.catalogue.specs.Plan.{Plan}
-use Rattle.core_model.specs.Locks.{cold_ops}
-use Rattle.core_model.specs.Decision.{pairs_from, cold_steps}
 use Rattle.core_model.specs.Facts.{answered, script_of_entry, writes}
-use Rattle.core_model.proofs.Decided.{IsDistinct, AllFind, same_names, absent-steps_of}
+use Rattle.core_model.proofs.Decided.{IsDistinct, same_names, absent-steps_of}
 
 pub all_append : {X : Type 0} (P : X → Type 0) (a b : List X) → AllByRecursion P a → AllByRecursion P b → AllByRecursion P (a ++ b)
 all_append P [] b ha hb = hb
@@ -45,24 +41,6 @@ named (o ∷ ops) t h =
       | true ↦ λ on e. record { k = 0; op = o; at = refl; on = on }
       | false ↦ λ on e. let rest = named ops t e in record { k = suc rest.k; op = rest.op; at = rest.at; on = rest.on }
     ] refl h
-
--- a script all of whose tuples are on hosts
-abbrev pub OnHosts : List LayoutRow → List Op → Type 0
-OnHosts rows ops = AllByRecursion (λ op. is_hot rows op.tuple ≡ false) ops
-
-pub cold_ops-all : (rows : List LayoutRow) (ops : List Op) → OnHosts rows ops → cold_ops rows ops ≡ ops
-cold_ops-all rows [] h = refl
-cold_ops-all rows (o ∷ ops) h = ap (λ (b : Bool). if not b then o ∷ cold_ops rows ops else cold_ops rows ops) h.0 ∙ ap (λ (l : List Op). o ∷ l) (cold_ops-all rows ops h.1)
-
-pub cold_steps-all : (rows : List LayoutRow) (ops : List Op) (reply : List Pair) → OnHosts rows ops → cold_steps rows ops reply ≡ steps_of ops reply
-cold_steps-all rows [] reply h = refl
-cold_steps-all rows (o ∷ ops) [] h = refl
-cold_steps-all rows (o ∷ ops) (p ∷ reply) h = ap (λ (b : Bool). if not b then (o, p) ∷ cold_steps rows ops reply else cold_steps rows ops reply) h.0 ∙ ap (λ (l : List Step). (o, p) ∷ l) (cold_steps-all rows ops reply h.1)
-
-pub length-steps_of : (ops : List Op) (reply : List Pair) → length reply ≡ length ops → length (steps_of ops reply) ≡ length ops
-length-steps_of [] reply h = refl
-length-steps_of (o ∷ ops) [] h = absurd (omega arith)
-length-steps_of (o ∷ ops) (p ∷ reply) h = ap suc (length-steps_of ops reply (omega arith))
 
 -- a read leaves what it finds
 effect-read : (act : Act) (was s : ℤ) → is_read act ≡ true → effect act was s ≡ was
@@ -103,22 +81,6 @@ absent-answered plan t (e ∷ h) all = all_append (λ s. names_tuple t s ≡ fal
 pub quiet-answered : (plan : Plan) (t : TupleId) (h : History) → AllByRecursion IsLocal (answered plan h) → AllByRecursion (λ e. writes (script_of_entry plan e) t ≡ false) h → IsQuiet t (all_steps (answered plan h))
 quiet-answered plan t [] local all = tt
 quiet-answered plan t (e ∷ h) local all = all_append (λ s. names_tuple t s ≡ true → s.1.now ≡ s.1.was) (steps_of (script_of_entry plan e) (unwrap_or e.pairs [])) (all_steps (answered plan h)) (quiet-steps_of t [] (script_of_entry plan e) (unwrap_or e.pairs []) local.0 all.0) (quiet-answered plan t h local.1 all.1)
-
--- what each operation on a tuple finds, place by place
-pub all_find : (t : TupleId) (w : ℤ) (ops : List Op) (values : List ℤ) → ((k : ℕ) (op : Op) (v : ℤ) → slice_get ops k ≡ Some op → slice_get values k ≡ Some v → (op.tuple.0 == t.0) ≡ true → v ≡ w) → AllFind t w ops values
-all_find t w [] values f = tt
-all_find t w (o ∷ ops) [] f = tt
-all_find t w (o ∷ ops) (v ∷ values) f = (f 0 o v refl refl, all_find t w ops values (λ k op u a b on. f (suc k) op u a b on))
-
--- a decided pair has what was read
-pub found_value : (done : List Pair) (ops : List Op) (values : List ℤ) (k : ℕ) (op : Op) (p : Pair) (v : ℤ) → slice_get (steps_of ops (pairs_from done ops values)) k ≡ Some (op, p) → slice_get values k ≡ Some v → p.was ≡ v
-found_value done [] values k op p v e f = cc
-found_value done (o ∷ ops) [] k op p v e f = cc
-found_value done (o ∷ ops) (u ∷ values) zero op p v e f =
-    let hp : pair_of o done u ≡ p = (some_step (o, pair_of o done u) (op, p) e).1 in
-    let hv : u ≡ v = cc in
-    ap (λ (x : Pair). x.was) (sym hp) ∙ hv
-found_value done (o ∷ ops) (u ∷ values) (suc k) op p v e f = found_value (done ++ pair_of o done u ∷ []) ops values k op p v e f
 
 -- the last value at a tuple that a script names once is what that step leaves
 pub last_at : (ops : List Op) (reply : List Pair) (v : ℤ) (k : ℕ) (op : Op) (p : Pair) → IsDistinct ops → slice_get (steps_of ops reply) k ≡ Some (op, p) → last_value op.tuple v (steps_of ops reply) ≡ p.now

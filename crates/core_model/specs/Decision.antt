@@ -1,6 +1,5 @@
 -- How a transaction on hosts is decided: its reply, its stamp and its place in the history.
-use Rattle.std.specs.Prelude.{ℤ, ◌+◌, List, [], ◌∷◌, ◌++◌, filter, not}
-use Rattle.txn_model.specs.Serial.{pair_of}
+use Rattle.std.specs.Prelude.{◌+◌, List, [], ◌∷◌, filter, not}
 use Rattle.txn_model.specs.declared.op.Op.{Op}
 use Rattle.txn_model.specs.declared.pairs.Pair.{Pair}
 use Rattle.txn_model.specs.declared.stamp.Seen.{Seen}
@@ -9,12 +8,6 @@ use Rattle.history_model.specs.History.{greater}
 use Rattle.history_model.specs.Chain.{Step, steps_of}
 use Rattle.stage_layout.specs.Late.{is_hot}
 use Rattle.stage_layout.specs.declared.layout.LayoutRow.{LayoutRow}
-
--- the pairs of a script whose operations find these values, behind the pairs in done
-abbrev pub pairs_from : List Pair → List Op → List ℤ → List Pair
-pairs_from done [] values = []
-pairs_from done (op ∷ ops) [] = []
-pairs_from done (op ∷ ops) (v ∷ values) = let p = pair_of op done v in p ∷ pairs_from (done ++ p ∷ []) ops values
 
 -- the greatest of a stamp and of those that were read
 abbrev pub greatest : Stamp → List Seen → Stamp

@@ -7,12 +7,6 @@ pub mod Run
 pub mod Facts
 pub mod Laws
 pub mod Asking
-pub mod Bound
 pub mod Ends
 pub mod Rota
-pub mod Built
-pub mod Driven
-pub mod Room
-pub mod Fixed
 pub mod ColdChains
-pub mod TwoPhases

@@ -6,7 +6,7 @@ use Rattle.txn_model.specs.declared.op.Op.{Op}
 use Rattle.stage_layout.specs.Late.{is_hot}
 use Rattle.stage_layout.specs.declared.layout.LayoutRow.{LayoutRow}
 use Rattle.catalogue.specs.Plan.{Plan}
-use Rattle.core_model.specs.State.{ClientState, State, client_at, script_now}
+use Rattle.core_model.specs.State.{ClientState, script_now}
 
 -- the operations of a script on tuples of hosts
 abbrev pub cold_ops : List LayoutRow → List Op → List Op
@@ -20,15 +20,8 @@ held plan c client = drop client.installed (take (length client.noted) (cold_ops
 abbrev pub clashes : Op → Op → Bool
 clashes op other = (op.tuple.0 == other.tuple.0) && not (is_read op.act && is_read other.act)
 
--- a client's locks stand in the way of the operation
-abbrev pub in_the_way : Plan → State → Op → ℕ → Bool
-in_the_way plan s op client = list_any (clashes op) (held plan client (client_at s client))
-
 -- the least client but this one whose lock stands in the way of the operation; the list begins with client k
 abbrev pub holder_from : Plan → ℕ → Op → ℕ → List ClientState → Option ℕ
 holder_from plan me op k [] = None
 holder_from plan me op k (client ∷ clients) =
     if not (k == me) && list_any (clashes op) (held plan k client) then Some k else holder_from plan me op (k + 1) clients
-
-abbrev pub holder : Plan → State → ℕ → Op → Option ℕ
-holder plan s me op = holder_from plan me op 0 s.clients

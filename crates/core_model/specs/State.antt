@@ -1,15 +1,13 @@
--- States of the core.
-use Rattle.std.specs.Prelude.{ℕ, nat_le, if◌then◌else◌, List, [], slice_index_or, unwrap_or}
+-- States of clients.
+use Rattle.std.specs.Prelude.{ℕ, nat_le, if◌then◌else◌, List, [], unwrap_or}
 use Rattle.txn_model.specs.declared.op.Op.{Op}
 use Rattle.txn_model.specs.declared.pairs.Pair.{Pair}
 use Rattle.txn_model.specs.declared.stamp.Seen.{Seen}
 use Rattle.txn_model.specs.declared.stamp.Stamp.{Stamp}
 pub use Rattle.host_store.specs.Store.{Store, first_seen, seen_at}
-use Rattle.history_model.specs.History.{History}
 use Rattle.catalogue.specs.Plan.{Plan, script_of}
 use Rattle.core_model.specs.declared.phase.Phase.{Phase}
 use Rattle.core_model.specs.declared.phase.Phase.TheVariants.{Ready, Finished}
-use Rattle.core_model.specs.declared.refusal.Refusal.{Refusal}
 
 -- a client: its phase; the number of its present item and how often that was refused; what it read with each lock of this
 -- try that it hasn't released in aborting, in the order of the locks; how many values of its reply it has installed; the
@@ -23,23 +21,12 @@ pub record ClientState : Type 0 where
   pub last : Stamp
   pub reply : List Pair
 
--- the clients, the store, the history, the refusals so far, and how many moves were made
-pub record State : Type 0 where
-  pub clients : List ClientState
-  pub store : Store
-  pub history : History
-  pub refusals : List Refusal
-  pub moves : ℕ
-
 abbrev pub zero_stamp : Stamp
 zero_stamp = record { number = 0; sub = 0 }
 
 -- a client at the beginning of an item, where it has one
 abbrev pub at_item : ℕ → ℕ → Stamp → ClientState
 at_item items seq last = record { phase = if nat_le seq items then Ready else Finished; seq = seq; refused = 0; noted = []; installed = 0; last = last; reply = [] }
-
-abbrev pub client_at : State → ℕ → ClientState
-client_at s c = slice_index_or s.clients c (at_item 0 1 zero_stamp)
 
 -- the script of a client's present item; no operations where there is none
 abbrev pub script_now : Plan → ℕ → ClientState → List Op

@@ -1,8 +1,7 @@
 -- The answered entry of an item, as a history tells it.
-use Rattle.std.proofs.Common.{◌≡◌, ℕ, ◌==◌, ◌&&◌, Bool, true, false, List, [], ◌∷◌, cond, find, is_some, if◌then◌else◌, Option, Some, None, refl, sym, ap, ◌∙◌}
+use Rattle.std.proofs.Common.{◌≡◌, ℕ, ◌==◌, ◌&&◌, Bool, true, false, List, [], ◌∷◌, find, is_some, if◌then◌else◌, Option, Some, None, refl, sym, ap, ◌∙◌}
 use Rattle.std.specs.Option.{option_and_then, option_map}
 use Rattle.txn_model.specs.declared.pairs.Pair.{Pair}
-use Rattle.txn_model.specs.declared.stamp.Stamp.{Stamp}
 use Rattle.history_model.specs.History.{HistoryEntry, History}
 use Rattle.history_model.specs.declared.entry.Entry.{Entry}
 use Rattle.history_core.specs.Answers.{is_of_item, entry_of, reply_of}

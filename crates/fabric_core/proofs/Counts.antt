@@ -3,8 +3,8 @@ use Rattle.std.proofs.Common.{◌≡◌, ℕ, suc, ◌+◌, ◌<◌, ◌≤◌, 
 use Rattle.std.proofs.Math.Seq.{drop-cons}
 use Rattle.catalogue.specs.Plan.{Plan, PlainItem}
 use Rattle.catalogue.specs.Sound.{IsSound}
-use Rattle.core_model.specs.Bound.{items_bound, clients_bound, move_bound}
-use Rattle.core_model.proofs.SmallBounds.{small_bound}
+use Rattle.fabric_model.specs.Bound.{items_bound, clients_bound, move_bound}
+use Rattle.fabric_model.proofs.SmallBounds.{small_bound}
 
 moves_from : (plan : Plan) (lists : List (List PlainItem)) (c : ℕ) → c < length lists → clients_bound plan (drop c lists) ≡ items_bound plan (get_or lists c []) + clients_bound plan (drop (suc c) lists)
 moves_from plan lists c lt = ap (clients_bound plan) (drop-cons lists c [] lt)

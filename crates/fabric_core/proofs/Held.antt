@@ -1,5 +1,5 @@
 -- A lock table that has the clients' locks: who is in the way, and how it follows each move.
-use Rattle.std.proofs.Common.{◌≡◌, ◌≢◌, ℕ, zero, suc, ◌+◌, ◌-◌, ◌<◌, ◌≤◌, ◌==◌, ◌&&◌, ◌||◌, Bool, true, false, not, List, [], ◌∷◌, ◌++◌, length, take, drop, set, get_or, slice_get, Option, Some, None, if◌then◌else◌, inl, inr, refl, sym, ap, subst, ◌∙◌, arith, length-append}
+use Rattle.std.proofs.Common.{◌≡◌, ◌≢◌, ℕ, zero, suc, ◌+◌, ◌-◌, ◌<◌, ◌==◌, ◌&&◌, ◌||◌, Bool, true, false, not, List, [], ◌∷◌, ◌++◌, length, take, drop, set, get_or, slice_get, Option, Some, None, if◌then◌else◌, inl, inr, refl, sym, ap, subst, ◌∙◌, arith, length-append}
 use Rattle.std.specs.List.{list_any}
 use Rattle.std.proofs.lemmas.Bool.Decides.{nat_tests}
 use Rattle.std.proofs.lemmas.List.{drop_all, length-take-le}
@@ -8,6 +8,11 @@ use Rattle.txn_model.specs.declared.op.Op.{Op}
 use Rattle.txn_model.specs.declared.op.TupleId.{TupleId}
 use Rattle.txn_model.specs.declared.pairs.Pair.{Pair}
 use Rattle.txn_model.specs.declared.stamp.Seen.{Seen}
+use Rattle.txn_model.specs.declared.stamp.Stamp.{Stamp}
+use Rattle.switch_packet.specs.Packets.{PlainPacket}
+use Rattle.switch_model.specs.Switch.{Switch, Answer}
+use Rattle.warm_split.specs.Joined.{joined}
+use Rattle.fabric_model.specs.Intents.{values_of}
 use Rattle.history_model.specs.Chain.{Step}
 use Rattle.stage_layout.specs.declared.layout.LayoutRow.{LayoutRow}
 use Rattle.stage_layout.specs.Late.{is_hot}
@@ -20,20 +25,24 @@ use Rattle.host_locks.specs.declared.mode.Grant.TheVariants.{Granted, HeldBy}
 use Rattle.host_locks.specs.declared.mode.Mode.{Mode}
 use Rattle.host_locks.specs.declared.mode.Mode.TheVariants.{Shared, Exclusive}
 use Rattle.core_model.specs.declared.phase.Phase.TheVariants.{Ready, Locking, Aborting, Installing}
-use Rattle.core_model.specs.State.{ClientState, State, at_item, client_at, seen_at, script_now, zero_stamp}
-use Rattle.core_model.specs.Asking.{next_op}
-use Rattle.core_model.specs.Decision.{cold_steps}
-use Rattle.core_model.specs.Facts.{FitsPhase, steps_now}
-use Rattle.core_model.specs.Locks.{cold_ops, clashes, held, holder, in_the_way}
-use Rattle.core_model.specs.Run.{first_clients, opening}
-use Rattle.core_model.specs.Step.{aborting, try_ended, next_item, granted, refused, by_holder, asked, released, decided, installed_one, installed}
+use Rattle.core_model.specs.State.{ClientState, at_item, seen_at, script_now, zero_stamp}
+use Rattle.core_model.specs.Facts.{steps_now}
+use Rattle.core_model.specs.Locks.{cold_ops, clashes, held}
+use Rattle.core_model.specs.Run.{first_clients}
+use Rattle.core_model.specs.Step.{aborting, try_ended, next_item, installed_one}
 use Rattle.core_model.proofs.Fewer.{same_or_not}
 use Rattle.core_model.proofs.Holders.{holder_of_least, holder_of_free}
 use Rattle.core_model.proofs.Moves.{moved_client, others_stay}
 use Rattle.core_model.proofs.Decided.{IsDistinct, or_false, same_names}
 use Rattle.core_model.proofs.Granted.{differ, joined_tests, named_by, turned_test}
 use Rattle.core_model.proofs.StepsOf.{unless}
+use Rattle.fabric_model.specs.Asking.{in_the_way}
+use Rattle.fabric_model.specs.ColdFacts.{FitsPhase}
+use Rattle.fabric_model.specs.Run.{opening}
+use Rattle.fabric_model.specs.State.{State, client_at}
+use Rattle.fabric_model.specs.Step.{granted, refused, asked, released, decided, logged, posted, replied, taken, installed, switched, entered, holder, next_op}
 use Rattle.fabric_core.specs.Held.{HasLocks, mode_of, lock_of}
+use Rattle.fabric_core.proofs.ColdOps.{cold_op_at}
 
 turned : (a b : ℕ) → (a == b) ≡ (b == a)
 turned a b = grind (arith, nat_tests)
@@ -190,11 +199,11 @@ pub holder_same : (plan : Plan) (s : State) (locks : Locks) (c : ℕ) (op : Op) 
     → IsLeastInTheWay (tables.in_the_way locks op.tuple (mode_of op)) c by → holder plan s c op ≡ Some by
 holder_same plan s locks c op by has distinct least =
     let same = same_way plan s locks op has distinct in
-    holder_of_least plan s c op by (record { another = least.another; conflict = sym (same by) ∙ least.conflict; least = λ d lt n. sym (same d) ∙ least.least d lt n })
+    holder_of_least plan s.clients c op by (record { another = least.another; conflict = sym (same by) ∙ least.conflict; least = λ d lt n. sym (same d) ∙ least.least d lt n })
 
 pub free_same : (plan : Plan) (s : State) (locks : Locks) (c : ℕ) (op : Op) → HasLocks plan s locks → ((d : ℕ) → IsDistinct (script_now plan d (client_at s d)))
     → IsFree (tables.in_the_way locks op.tuple (mode_of op)) c → holder plan s c op ≡ None
-free_same plan s locks c op has distinct free = holder_of_free plan s c op (λ d n. sym (same_way plan s locks op has distinct d) ∙ free d n)
+free_same plan s locks c op has distinct free = holder_of_free plan s.clients c op (λ d n. sym (same_way plan s locks op has distinct d) ∙ free d n)
 
 -- moves: a client's locks before one
 
@@ -220,22 +229,6 @@ held_last plan c x op at some none distinct =
     let all : length x.noted ≡ suc (length x.noted - 1) = omega arith in
     ap (λ (ops : List Op). lock_of ops op.tuple) (held_at_start plan c x none ∙ ap (λ (n : ℕ). take n cold) all)
     ∙ lock_of-last cold (length x.noted - 1) op (distinct_cold plan.layout (script_now plan c x) distinct) at
-
--- the operation of the step that is installed next
-cold_op_at : (rows : List LayoutRow) (ops : List Op) (reply : List Pair) (k : ℕ) (step : Step) → slice_get (cold_steps rows ops reply) k ≡ Some step → slice_get (cold_ops rows ops) k ≡ Some step.0
-cold_op_at rows [] reply k step at = cc
-cold_op_at rows (op ∷ ops) [] k step at = cc
-cold_op_at rows (op ∷ ops) (p ∷ reply) k step at = by (is_hot rows op.tuple) k (λ i. cold_op_at rows ops reply i step) at
-  where
-    first : (a b : Step) → Some a ≡ Some b → a.0 ≡ b.0
-    first a b e = let same : a ≡ b = cc in ap (λ (x : Step). x.0) same
-
-    by : (b : Bool) (i : ℕ) → ((j : ℕ) → slice_get (cold_steps rows ops reply) j ≡ Some step → slice_get (cold_ops rows ops) j ≡ Some step.0)
-        → slice_get (if not b then (op, p) ∷ cold_steps rows ops reply else cold_steps rows ops reply) i ≡ Some step
-        → slice_get (if not b then op ∷ cold_ops rows ops else cold_ops rows ops) i ≡ Some step.0
-    by true i rest e = rest i e
-    by false zero rest e = ap Some (first (op, p) step e)
-    by false (suc i) rest e = rest i e
 
 at_taken : (n : ℕ) (ops : List Op) (i : ℕ) (op : Op) → i < n → slice_get ops i ≡ Some op → slice_get (take n ops) i ≡ Some op
 at_taken zero ops i op lt at = absurd (omega arith)
@@ -292,10 +285,10 @@ module _ (plan : Plan) (s after : State) (c : ℕ) (y : ClientState) (clients : 
       differs a b n = grind (arith, nat_tests)
 
 pub locks_granted : (plan : Plan) (s : State) (locks now : Locks) (c : ℕ) (op : Op) → HasLocks plan s locks → IsWithLock locks now op.tuple c (Some (mode_of op)) → c < length s.clients
-    → next_op plan c (client_at s c) ≡ Some op → (client_at s c).installed ≡ 0 → IsDistinct (script_now plan c (client_at s c)) → HasLocks plan (granted plan s c (client_at s c) op) now
+    → next_op plan c (client_at s c) ≡ Some op → (client_at s c).installed ≡ 0 → IsDistinct (script_now plan c (client_at s c)) → HasLocks plan (granted s c (client_at s c) op) now
 unfolding granted
 locks_granted plan s locks now c op has with_lock within next none distinct =
-    changed_lock plan s (granted plan s c (client_at s c) op) c y refl within locks has now op.tuple (Some (mode_of op)) with_lock
+    changed_lock plan s (granted s c (client_at s c) op) c y refl within locks has now op.tuple (Some (mode_of op)) with_lock
     (λ t. ap (λ (ops : List Op). lock_of ops t) (held_at_start plan c y none ∙ ap (λ (n : ℕ). take n cold) one_more)
     ∙ lock_next cold (length x.noted) op t (distinct_cold plan.layout (script_now plan c x) distinct) next
     ∙ ap (λ (ops : List Op). if t.0 == op.tuple.0 then Some (mode_of op) else lock_of ops t) (sym (held_at_start plan c x none)))
@@ -351,15 +344,58 @@ pub locks_decided : (plan : Plan) (s : State) (locks : Locks) (c : ℕ) → HasL
 unfolding decided
 locks_decided plan s locks c has within = same_locks plan s (decided plan s c (client_at s c)) c _ refl within locks has refl
 
+pub locks_logged : (plan : Plan) (s : State) (locks : Locks) (c : ℕ) → HasLocks plan s locks → c < length s.clients → HasLocks plan (logged plan s c (client_at s c)) locks
+unfolding logged
+locks_logged plan s locks c has within = same_locks plan s (logged plan s c (client_at s c)) c _ refl within locks has refl
+
+pub locks_posted : (plan : Plan) (s : State) (locks : Locks) (c : ℕ) (next : Switch) → HasLocks plan s locks → c < length s.clients → HasLocks plan (posted s c (client_at s c) next) locks
+unfolding posted
+locks_posted plan s locks c next has within = same_locks plan s (posted s c (client_at s c) next) c _ refl within locks has refl
+
+-- behind its answer a client has the locks that it had
+pub locks_taken : (plan : Plan) (s : State) (locks : Locks) (c : ℕ) (answer : Answer) (next : Switch) → HasLocks plan s locks → c < length s.clients → HasLocks plan (taken plan s c (client_at s c) answer next) locks
+unfolding taken
+locks_taken plan s locks c answer next has within =
+    same_locks plan s (taken plan s c (client_at s c) answer next) c (replied plan c x stamp reply) refl within locks has (by (length x.noted == 0) refl)
+  where
+    x : ClientState
+    x = client_at s c
+
+    stamp : Stamp
+    stamp = record { number = answer.number; sub = 0 }
+
+    reply : List Pair
+    reply = joined plan.layout (script_now plan c x) (values_of x.noted) answer.pairs
+
+    zero_of : (n : ℕ) → (n == 0) ≡ true → n ≡ 0
+    zero_of n e = grind (arith, nat_tests)
+
+    none : (noted : List Seen) → (length noted == 0) ≡ true → noted ≡ []
+    none [] e = refl
+    none (seen ∷ noted) e = absurd (omega (arith, zero_of (length (seen ∷ noted)) e))
+
+    by : (b : Bool) → (length x.noted == 0) ≡ b → held plan c (if b then next_item plan c (record x { phase = Installing; last = stamp; reply = reply }) else record x { phase = Installing; last = stamp; reply = reply }) ≡ held plan c x
+    by true e = held_by_none plan c (next_item plan c (record x { phase = Installing; last = stamp; reply = reply })) refl ∙ sym (held_by_none plan c x (none x.noted e))
+    by false e = refl
+
+-- moves of the switch change no lock
+pub locks_switched : (plan : Plan) (s : State) (locks : Locks) (next : Switch) → HasLocks plan s locks → HasLocks plan (switched s next) locks
+unfolding switched
+locks_switched plan s locks next has = has
+
+pub locks_entered : (plan : Plan) (s : State) (locks : Locks) (c : ℕ) (packet : PlainPacket) (number : ℕ) (next : Switch) → HasLocks plan s locks → HasLocks plan (entered s c packet number next) locks
+unfolding entered switched
+locks_entered plan s locks c packet number next has = has
+
 -- a client that asked, whatever the table answered
 pub locks_asked : (plan : Plan) (s : State) (locks now : Locks) (c : ℕ) (op : Op) (grant : Grant) → HasLocks plan s locks → IsTried locks now op.tuple (mode_of op) c grant
     → c < length s.clients → next_op plan c (client_at s c) ≡ Some op → (client_at s c).installed ≡ 0 → ((d : ℕ) → IsDistinct (script_now plan d (client_at s d)))
-    → HasLocks plan (asked plan s c (client_at s c) op) now
+    → HasLocks plan (asked plan s c (client_at s c) op (holder plan s c op)) now
 locks_asked plan s locks now c op Granted has tried within next none distinct =
-    subst (λ (o : Option ℕ). HasLocks plan (by_holder plan s c (client_at s c) op o) now) (sym (free_same plan s locks c op has distinct tried.0))
+    subst (λ (o : Option ℕ). HasLocks plan (asked plan s c (client_at s c) op o) now) (sym (free_same plan s locks c op has distinct tried.0))
     (locks_granted plan s locks now c op has tried.1 within next none (distinct c))
 locks_asked plan s locks now c op (HeldBy other) has tried within next none distinct =
-    subst (λ (o : Option ℕ). HasLocks plan (by_holder plan s c (client_at s c) op o) now) (sym (holder_same plan s locks c op other has distinct tried.0))
+    subst (λ (o : Option ℕ). HasLocks plan (asked plan s c (client_at s c) op o) now) (sym (holder_same plan s locks c op other has distinct tried.0))
     (subst (λ (l : Locks). HasLocks plan (refused plan s c (client_at s c) op other) l) (sym tried.1) (locks_refused plan s locks c op other has within none))
 
 -- behind an installation
@@ -385,15 +421,15 @@ held_installed plan c x fit = by (x.installed + 1 == length (steps_now plan c x)
 
 pub locks_installed : (plan : Plan) (s : State) (locks now : Locks) (c : ℕ) (step : Step) → HasLocks plan s locks → IsWithLock locks now step.0.tuple c None → c < length s.clients
     → slice_get (steps_now plan c (client_at s c)) (client_at s c).installed ≡ Some step → FitsPhase plan c (client_at s c) Installing
-    → IsDistinct (script_now plan c (client_at s c)) → HasLocks plan (installed plan s c (client_at s c) step) now
+    → (client_at s c).installed < length (client_at s c).noted → IsDistinct (script_now plan c (client_at s c)) → HasLocks plan (installed plan s c (client_at s c) step) now
 unfolding installed
-locks_installed plan s locks now c step has with_lock within at fit distinct =
+locks_installed plan s locks now c step has with_lock within at fit left distinct =
     let x = client_at s c in
     let cold = cold_ops plan.layout (script_now plan c x) in
     changed_lock plan s (installed plan s c x step) c (installed_one plan c x (length (steps_now plan c x))) refl within locks has now step.0.tuple None with_lock
     (λ t. ap (λ (ops : List Op). lock_of ops t) (held_installed plan c x fit)
     ∙ lock_behind (take (length x.noted) cold) x.installed step.0 t (distinct_taken (length x.noted) cold (distinct_cold plan.layout (script_now plan c x) distinct))
-    (at_taken (length x.noted) cold x.installed step.0 fit.2 (cold_op_at plan.layout (script_now plan c x) x.reply x.installed step at)))
+    (at_taken (length x.noted) cold x.installed step.0 left (cold_op_at plan.layout (script_now plan c x) x.reply x.installed step at)))
 
 -- a table without locks has those of the opening
 pub locks_at_opening : (plan : Plan) (locks : Locks) → ((t : TupleId) (c : ℕ) → mode_held locks t c ≡ None) → HasLocks plan (opening plan) locks

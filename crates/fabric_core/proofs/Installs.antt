@@ -1,144 +1,125 @@
 -- What the installation of a client's next value makes of the code is what it makes of the model.
-use Rattle.std.proofs.Common.{◌≡◌, ◌≢◌, ℕ, zero, suc, ◌<◌, ◌≤◌, List, [], ◌∷◌, length, slice_get, get_or, Some, None, IsSome, is_some, option_map, refl, sym, ap, subst, ◌∙◌, arith}
+use Rattle.std.proofs.Common.{◌≡◌, ℕ, zero, suc, ◌<◌, ◌&&◌, Bool, true, not, List, [], ◌∷◌, length, slice_get, get_or, Some, None, is_some, option_map, refl, sym, ap, subst, ◌∙◌, arith}
+use Rattle.std.specs.Prelude.{IsSome}
 use Rattle.std.specs.FinMap as fin
 use Rattle.std.specs.Vec.{with_item}
-use Rattle.txn_model.proofs.SerialLaws.{sound_length}
-use Rattle.txn_model.specs.ScriptCheck.{script_fault}
 use Rattle.txn_model.specs.declared.op.Op.{Op}
 use Rattle.txn_model.specs.declared.pairs.Pair.{Pair}
 use Rattle.txn_model.specs.declared.stamp.Stamp.{Stamp}
-use Rattle.history_model.specs.Chain.{Step, steps_of}
+use Rattle.stage_layout.specs.Late.{is_hot}
+use Rattle.history_model.specs.Chain.{steps_of}
 use Rattle.host_store.specs.Store as hosts
-use Rattle.catalogue.specs.Plan.{Plan}
-use Rattle.client_phase.specs.Shown.{plain_client, room_of, shown, shown_pairs}
-use Rattle.client_phase.specs.declared.action.Action.TheVariants.{Install}
-use Rattle.client_phase.specs.declared.client_state.ClientState as code
-use Rattle.client_phase.proofs.NextMoves.{install_is}
-use Rattle.core_model.specs.declared.phase.Phase.TheVariants.{Installing, Finished}
-use Rattle.core_model.specs.Facts.{FitsPhase, steps_now}
-use Rattle.core_model.specs.Locks.{cold_ops}
-use Rattle.core_model.specs.State.{ClientState, State, client_at, script_now}
-use Rattle.core_model.specs.Step.{installed, installed_one}
-use Rattle.core_model.proofs.Decide.{item_at_place}
-use Rattle.core_model.proofs.Legal.{all_on_hosts}
-use Rattle.core_model.proofs.Reached.{cold_now}
-use Rattle.core_model.proofs.StepsOf.{cold_steps-all}
-use Rattle.core_model.proofs.Stored.{stored_same, tuple_is_there}
+use Rattle.catalogue.specs.Plan.{Plan, PlainItem, Run}
+use Rattle.catalogue.specs.declared.actor.Actor.TheVariants.{Client}
 use Rattle.host_locks.specs.Locks.{Locks, IsWithLock, mode_held}
-use Rattle.fabric_core.specs.Held.{mode_of}
+use Rattle.core_model.specs.declared.phase.Phase.TheVariants.{Installing}
+use Rattle.core_model.specs.Facts.{steps_now}
+use Rattle.core_model.specs.State.{ClientState, script_now}
+use Rattle.client_phase.specs.ColdNumbers.{cold_count, cold_number}
+use Rattle.client_phase.specs.Laws.{IsAtScript}
+use Rattle.client_phase.specs.Shown.{PlainClient, shown_now, shown_pairs}
+use Rattle.client_phase.specs.declared.action.Action.TheVariants.{Install}
+use Rattle.client_phase.specs.declared.action.Met.TheVariants.{Done}
+use Rattle.client_phase.proofs.ModelRows.{rows_are_stepped}
+use Rattle.client_phase.proofs.Models.{step_is}
+use Rattle.client_phase.proofs.Numbers.{within-numbers}
+use Rattle.client_phase.proofs.Rows.{count_is}
+use Rattle.fabric_model.specs.ColdFacts.{FitsPhase}
+use Rattle.fabric_model.specs.State.{State, client_at}
+use Rattle.fabric_model.specs.Step.{installed}
 use Rattle.fabric_core.specs.Standing.{IsActionIn, Follows}
+use Rattle.fabric_core.specs.Steps.{HasStepped}
 use Rattle.fabric_core.specs.declared.core_state.CoreState.{CoreState}
-use Rattle.fabric_core.proofs.Clients as clients
+use Rattle.fabric_core.specs.declared.runner.Runner.{Runner}
+use Rattle.fabric_core.proofs.ColdOps.{IsCold, cold_op_at, cold_there, in_session}
 use Rattle.fabric_core.proofs.Held.{held_first, locks_installed}
+use Rattle.fabric_core.proofs.NextActions.{install_is}
 use Rattle.fabric_core.proofs.Present as present
+use Rattle.fabric_core.proofs.Stored.{is_on_host, stored_same}
 
 -- the step of an operation and its pair
 step_at : (ops : List Op) (reply : List Pair) (k : ℕ) (op : Op) (p : Pair) → slice_get ops k ≡ Some op → slice_get reply k ≡ Some p → slice_get (steps_of ops reply) k ≡ Some (op, p)
 step_at [] reply k op p at with_pair = cc
 step_at (o ∷ ops) [] k op p at with_pair = cc
 step_at (o ∷ ops) (q ∷ reply) zero op p at with_pair =
-    let same_op : o ≡ op = cc in
-    let same_pair : q ≡ p = cc in
-    ap (λ (a : Op). Some (a, q)) same_op ∙ ap (λ (b : Pair). Some (op, b)) same_pair
+    let same : o ≡ op = cc in
+    let pair : q ≡ p = cc in
+    ap (λ (x : Op). Some (x, q)) same ∙ ap (λ (x : Pair). Some (op, x)) pair
 step_at (o ∷ ops) (q ∷ reply) (suc k) op p at with_pair = step_at ops reply k op p at with_pair
 
--- there are no more steps than pairs
-few_steps : (ops : List Op) (reply : List Pair) → length (steps_of ops reply) ≤ length reply
-few_steps [] reply = omega arith
-few_steps (o ∷ ops) [] = omega arith
-few_steps (o ∷ ops) (p ∷ reply) = omega (arith, few_steps ops reply)
-
-module _ {plan : Plan} {core : CoreState} {c at k : ℕ} {ops : List Op} {s : State} (a : IsActionIn plan core c at ops (Install k) s) where
+module _ {plan : Plan} {core : CoreState} {c at k : ℕ} {item : PlainItem} {s : State} (a : IsActionIn plan core c at item (Install k) s) {ops : List Op} (is : item ≡ Run ops) {r : Runner} (here : r ≡ get_or core.runners.items c r) where
   abbrev x : ClientState
   x = client_at s c
 
-  -- with one more of its values installed
-  abbrev y : ClientState
-  y = installed_one plan c x (length ops)
+  at_script : IsAtScript plan c x r.parts
+  at_script = present.at_script a here is
 
-  is : (x.phase ≡ Installing) × (k ≡ x.installed)
-  is = install_is x.phase (length x.noted) x.installed (length (script_now plan c x)) k a.next
-
-  pub phase : x.phase ≡ Installing
-  phase = is.0
-
-  pub active : x.phase ≢ Finished
-  active e = clash (sym phase ∙ e)
-    where
-      clash : Installing ≡ Finished → ⊥
-      clash e = cc
+  installs : (x.phase ≡ Installing) × (k ≡ cold_number r.parts (script_now plan c x) x.installed)
+  installs = install_is r.parts (script_now plan c x) (shown_now plan c x) x.phase k (present.action_is a here is)
 
   fit : FitsPhase plan c x Installing
-  fit = subst (FitsPhase plan c x) phase (present.fits_now plan core c at s a.turn)
+  fit = subst (FitsPhase plan c x) installs.0 at_script.fits
 
-  cold : cold_ops plan.layout (script_now plan c x) ≡ ops
-  cold = cold_now plan s c a.turn.reached ∙ a.script
+  left : x.installed < length x.noted
+  left = at_script.installs installs.0
 
-  pub few : length ops ≤ 16
-  few = sound_length ops (subst (λ (l : List Op). script_fault l ≡ None) a.script (present.fit_now plan s c a.turn.reached (omega (arith, a.some, ap length a.script))))
+  low : x.installed < cold_count r.parts (script_now plan c x)
+  low = omega (arith, left, fit.0, count_is plan.layout (script_now plan c x) r.parts at_script.sets)
 
-  steps : steps_now plan c x ≡ steps_of ops x.reply
-  steps = cold_steps-all plan.layout (script_now plan c x) x.reply (all_on_hosts plan a.turn.reached.cold c x.seq) ∙ ap (λ (l : List Op). steps_of l x.reply) a.script
+  -- the operation is one of the script
+  pub within : k < length ops
+  within = omega (arith, installs.1, within-numbers r.parts.hot 0 (script_now plan c x) x.installed low, ap length (present.ops_now a here is))
 
-  -- a step for each operation
-  all_steps : length (steps_now plan c x) ≡ length ops
-  all_steps = fit.1 ∙ fit.0 ∙ ap length cold
+  reply_kept : r.state.pairs.items ≡ x.reply
+  reply_kept = ap (λ (p : PlainClient). p.pairs) (present.is_runner a.turn here).kept ∙ ap (shown_pairs plan.layout (script_now plan c x) x) installs.0
 
-  within : x.installed < length ops
-  within = omega (arith, fit.2, fit.0, ap length cold)
+  pub within_pairs : k < length r.state.pairs.items
+  within_pairs = omega (arith, within, ap length reply_kept, at_script.reply installs.0, ap length (present.ops_now a here is))
 
-  within_reply : x.installed < length x.reply
-  within_reply = omega (arith, within, all_steps, ap length steps, few_steps ops x.reply)
+  module _ {op : Op} (found : slice_get ops k ≡ Some op) {pair : Pair} (with_pair : slice_get r.state.pairs.items k ≡ Some pair) where
+    at_number : slice_get (steps_of (script_now plan c x) x.reply) k ≡ Some (op, pair)
+    at_number = step_at (script_now plan c x) x.reply k op pair (ap (λ (l : List Op). slice_get l k) (present.ops_now a here is) ∙ found) (ap (λ (l : List Pair). slice_get l k) (sym reply_kept) ∙ with_pair)
 
-  step_here : (op : Op) (p : Pair) → slice_get ops x.installed ≡ Some op → slice_get x.reply x.installed ≡ Some p → slice_get (steps_now plan c x) x.installed ≡ Some (op, p)
-  step_here op p at with_pair = ap (λ (l : List Step). slice_get l x.installed) steps ∙ step_at ops x.reply x.installed op p at with_pair
+    at_step : slice_get (steps_now plan c x) x.installed ≡ Some (op, pair)
+    at_step =
+        sym (step_is plan.layout (script_now plan c x) r.parts x.reply x.installed at_script.sets (at_script.reply installs.0) low)
+        ∙ ap (slice_get (steps_of (script_now plan c x) x.reply)) (sym installs.1)
+        ∙ at_number
 
-  -- the code's client at its place
-  module _ {j : code.ClientState} (here : j ≡ get_or core.clients.items c j) where
-    pub left : j.installed < length ops
-    left = omega (arith, clients.installed_kept a.turn here, within)
+    cold : IsCold plan.layout (script_now plan c x) op
+    cold = cold_there plan.layout (script_now plan c x) x.installed op (cold_op_at plan.layout (script_now plan c x) x.reply x.installed (op, pair) at_step)
 
-    reply_kept : j.pairs.items ≡ x.reply
-    reply_kept = clients.pairs_kept a.turn here ∙ ap (shown_pairs (script_now plan c x) x) phase
+    on_host : is_on_host plan op.tuple ≡ true
+    on_host = ap (λ (b : Bool). b && not (is_hot plan.layout op.tuple)) (in_session plan c x.seq op a.turn.reached.sound cold) ∙ ap not cold.host
 
-    pub within_pairs : j.installed < length j.pairs.items
-    within_pairs = omega (arith, clients.installed_kept a.turn here, ap length reply_kept, within_reply)
+    pub is_stored : IsSome (fin.get core.store op.tuple)
+    is_stored = ap (λ (store : hosts.Store). is_some (fin.get store op.tuple)) a.turn.stands.store ∙ stored_same plan s a.turn.reached op.tuple ∙ on_host
 
-    -- and the operation whose value is installed
-    module _ {op : Op} (found : slice_get ops j.installed ≡ Some op) where
-      there : slice_get ops x.installed ≡ Some op
-      there = ap (slice_get ops) (sym (clients.installed_kept a.turn here)) ∙ found
+    pub is_held : IsSome (mode_held core.locks op.tuple c)
+    is_held = ap is_some (a.turn.stands.locks op.tuple c ∙ held_first plan c x (op, pair) at_step left)
 
-      pub is_stored : IsSome (fin.get core.store op.tuple)
-      is_stored =
-          ap (λ (store : hosts.Store). is_some (fin.get store op.tuple)) a.turn.stands.store
-          ∙ stored_same plan s a.turn.reached op.tuple
-          ∙ tuple_is_there plan c x.seq x.installed op a.turn.reached.sound (ap (λ (l : List Op). slice_get l x.installed) a.script ∙ there)
-
-      pub is_held : mode_held core.locks op.tuple c ≡ Some (mode_of op)
-      is_held =
-          let pair = item_at_place x.reply x.installed within_reply in
-          a.turn.stands.locks op.tuple c ∙ held_first plan c x (op, pair.0) (step_here op pair.0 there pair.1) fit.2
-
-      pub follows : (p : Pair) (new : code.ClientState) (locks : Locks) (store : hosts.Store) → slice_get j.pairs.items j.installed ≡ Some p → IsWithLock core.locks locks op.tuple c None
-          → store ≡ hosts.installed core.store op.tuple p.now j.last → plain_client new ≡ shown (script_now plan c y) y → room_of new ≡ room_of j
-          → Follows plan s c (record { clients = with_item core.clients c new; locks = locks; store = store; history = core.history; refusals = core.refusals })
-      unfolding installed
-      follows p new locks store pair with_lock put is_new room =
-          let with_pair : slice_get x.reply x.installed ≡ Some p =
-          ap (slice_get x.reply) (sym (clients.installed_kept a.turn here)) ∙ ap (λ (l : List Pair). slice_get l j.installed) (sym reply_kept) ∙ pair in
-          let at_step = step_here op p there with_pair in
-          record {
-            next = installed plan s c x (op, p);
-            step =
-                present.step_is plan core c at s a.turn (Install k) a.next
-                ∙ ap (λ (n : ℕ). option_map (installed plan s c x) (slice_get (steps_now plan c x) n)) is.1
-                ∙ ap (option_map (installed plan s c x)) at_step;
-            stands =
-                clients.stands_moved a.turn new (installed_one plan c x (length (steps_now plan c x)))
-                (subst (λ (n : ℕ). plain_client new ≡ shown (script_now plan c (installed_one plan c x n)) (installed_one plan c x n)) (sym all_steps) is_new)
-                (omega (arith, room, clients.room_kept a.turn here)) (installed plan s c x (op, p)) locks store refl refl refl
-                (locks_installed plan s core.locks locks c (op, p) a.turn.stands.locks with_lock (present.within_clients plan core c at s a.turn) at_step fit (present.distinct_now plan core c at s a.turn c))
-                with_lock.tuples
-                (put ∙ ap (λ (old : hosts.Store). hosts.installed old op.tuple p.now j.last) a.turn.stands.store ∙ ap (λ (l : Stamp). hosts.installed s.store op.tuple p.now l) (clients.last_kept a.turn here));
-          }
+    pub follows : {new : Runner} {locks : Locks} {store : hosts.Store} → IsWithLock core.locks locks op.tuple c None → store ≡ hosts.installed core.store op.tuple pair.now r.state.last
+        → HasStepped plan c item r new (Install k) Done
+        → Follows plan s (Client c) (record { runners = with_item core.runners c new; logs = core.logs; pipeline = core.pipeline; locks = locks; store = store; history = core.history; refusals = core.refusals; packet = core.packet; text = core.text })
+    unfolding installed
+    follows {new} {locks} {store} with_lock put has = record {
+      next = installed plan s c x (op, pair);
+      step = present.step_is a here ∙ ap (option_map (installed plan s c x)) at_number;
+      stands = record {
+        runners = present.runners_behind a here is (installed plan s c x (op, pair)) _ refl has ((rows_are_stepped plan s c x r.parts (present.within_clients a.turn) at_script).installed (op, pair) k installs.0);
+        logs = a.turn.stands.logs;
+        switch = a.turn.stands.switch;
+        locks = locks_installed plan s core.locks locks c (op, pair) a.turn.stands.locks with_lock (present.within_clients a.turn) at_step fit left (present.distinct_now a.turn c);
+        tuples = λ t. with_lock.tuples t ∙ a.turn.stands.tuples t;
+        store =
+            put
+            ∙ ap (λ (old : hosts.Store). hosts.installed old op.tuple pair.now r.state.last) a.turn.stands.store
+            ∙ ap (λ (l : Stamp). hosts.installed s.store op.tuple pair.now l) (present.last_kept a.turn here);
+        history = a.turn.stands.history;
+        runs = a.turn.stands.runs;
+        refusals = a.turn.stands.refusals;
+        refused = a.turn.stands.refused;
+        packet = a.turn.stands.packet;
+        text = a.turn.stands.text;
+      };
+    }

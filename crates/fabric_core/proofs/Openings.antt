@@ -1,27 +1,89 @@
--- What is kept at the opening: the tuples of the lock table, and the store.
-use Rattle.std.proofs.Common.{◌≡◌, ◌==◌, ◌||◌, Bool, List, [], ◌∷◌, is_some, refl, sym, ap, ◌∙◌}
+-- What is kept at the opening.
+use Rattle.std.proofs.Common.{◌≡◌, ℕ, ◌+◌, ◌<◌, ◌==◌, ◌||◌, ◌&&◌, not, ℤ, T, Bool, true, false, cond, List, [], ◌∷◌, ◌++◌, map, length, get_or, Option, Some, None, IsTrue, is_some, option_map, inl, inr, refl, sym, ap, subst, ◌∙◌, arith}
 use Rattle.std.specs.Cmp.{unsigned_tied}
 use Rattle.std.specs.FinMap as fin
+use Rattle.std.specs.FinMap.Entries as rows
 use Rattle.std.specs.List.{list_any}
-use Rattle.std.specs.Option.{option_map}
 use Rattle.std.specs.Ordering.{eq_by_cmp}
+use Rattle.std.proofs.Math.Seq.{get_or-append_seam}
+use Rattle.std.proofs.lemmas.Bool.{cases_lt}
+use Rattle.std.proofs.lemmas.List.{get_or_append_left, get_or-map}
 use Rattle.txn_model.specs.Tuples.{Tuples, tuple_cmp}
 use Rattle.txn_model.specs.declared.op.TupleId.{TupleId}
 use Rattle.txn_model.proofs.TupleOrder.{tuple_cmp_total, tuple_cmp_exact}
+use Rattle.stage_layout.specs.Late.{is_hot}
 use Rattle.host_store.specs.Store.{Store, first_seen}
-use Rattle.core_model.specs.Run.{first_rows}
+use Rattle.catalogue.specs.Plan.{Plan, items_of}
+use Rattle.catalogue.specs.Sound.{IsSound}
+use Rattle.core_model.specs.Run.{first_rows, first_clients}
+use Rattle.core_model.specs.State.{at_item, zero_stamp}
 use Rattle.core_model.proofs.Opening.{first_value}
+use Rattle.fabric_model.specs.Run.{host_rows, opening}
+use Rattle.fabric_model.proofs.Runs.{opening_is_reached}
+use Rattle.fabric_core.specs.Standing.{client_in}
+use Rattle.fabric_core.proofs.Stored.{stored_same}
 
-same_tests : (t : TupleId) (ids : List TupleId) → list_any (λ tuple. t.0 == tuple.0) ids ≡ list_any (eq_by_cmp tuple_cmp t) ids
-same_tests t [] = refl
-same_tests t (id ∷ ids) =
-    ap (λ (b : Bool). b || list_any (λ tuple. t.0 == tuple.0) ids) (sym (unsigned_tied t.0 id.0)) ∙ ap (λ (b : Bool). eq_by_cmp tuple_cmp t id || b) (same_tests t ids)
+-- the rows of the tuples on hosts ascend
+ascend : (plan : Plan) → T (rows.is_sorted tuple_cmp (host_rows plan))
+ascend plan = rows.is_sorted-where_key tuple_cmp (λ t. not (is_hot plan.layout t)) (fin.entries plan.tuples) (fin.entries_sorted plan.tuples)
 
--- a tuple is among those of a map where the map has it
-pub listed_tuples : (tuples : Tuples) (ids : List TupleId) (t : TupleId) → ids ≡ fin.keys tuples → list_any (λ tuple. t.0 == tuple.0) ids ≡ is_some (fin.get tuples t)
-listed_tuples tuples ids t is = ap (λ (l : List TupleId). list_any (λ tuple. t.0 == tuple.0) l) is ∙ same_tests t (fin.keys tuples) ∙ sym (fin.contains_key-keys tuples t)
+pub host_rows_ascend : (plan : Plan) → IsTrue (rows.is_sorted tuple_cmp (host_rows plan))
+host_rows_ascend plan = by (rows.is_sorted tuple_cmp (host_rows plan)) (ascend plan)
+  where
+    by : (b : Bool) → T b → IsTrue b
+    by true h = refl
+    by false h = absurd h
 
--- the store that has each tuple's first value is the model's
-pub first_store : (tuples : Tuples) (store : Store) → ((t : TupleId) → fin.get store t ≡ option_map first_seen (fin.get tuples t)) → store ≡ first_rows (fin.entries tuples)
-first_store tuples store is =
-    fin.same_map tuple_cmp_total tuple_cmp_exact store (first_rows (fin.entries tuples)) (λ t. is t ∙ ap (option_map first_seen) (fin.get-entries tuples t) ∙ sym (first_value (fin.entries tuples) t))
+pub ascend_as : (plan : Plan) (found : List (TupleId × ℤ)) → found ≡ host_rows plan → IsTrue (rows.is_sorted tuple_cmp found)
+ascend_as plan found same = subst (λ (l : List (TupleId × ℤ)). IsTrue (rows.is_sorted tuple_cmp l)) (sym same) (host_rows_ascend plan)
+
+pub fst_as : (plan : Plan) (found : List (TupleId × ℤ)) → found ≡ host_rows plan → map (λ row. row.0) found ≡ map (λ row. row.0) (host_rows plan)
+fst_as plan found same = ap (map (λ row. row.0)) same
+
+-- a tuple is among those of rows where these have it
+listed : (t : TupleId) (values : List (TupleId × ℤ)) → list_any (λ tuple. t.0 == tuple.0) (map (λ row. row.0) values) ≡ is_some (rows.find tuple_cmp t values)
+listed t [] = refl
+listed t (row ∷ values) = ap (λ (b : Bool). b || list_any (λ tuple. t.0 == tuple.0) (map (λ r. r.0) values)) (sym (unsigned_tied t.0 row.0.0)) ∙ by (eq_by_cmp tuple_cmp t row.0) (listed t values)
+  where
+    by : (b : Bool) → list_any (λ tuple. t.0 == tuple.0) (map (λ r. r.0) values) ≡ is_some (rows.find tuple_cmp t values)
+        → (b || list_any (λ tuple. t.0 == tuple.0) (map (λ r. r.0) values)) ≡ is_some (cond b (Some row.1) (rows.find tuple_cmp t values))
+    by true rest = refl
+    by false rest = rest
+
+is_seen : (o : Option ℤ) → is_some (option_map first_seen o) ≡ is_some o
+is_seen None = refl
+is_seen (Some v) = refl
+
+opening_store : (plan : Plan) → (opening plan).store ≡ first_rows (host_rows plan)
+unfolding opening
+opening_store plan = refl
+
+-- the locks are those of the session's tuples on hosts
+pub host_tuples : (plan : Plan) (t : TupleId) (ids : List TupleId) → IsSound plan → ids ≡ map (λ row. row.0) (host_rows plan)
+    → list_any (λ tuple. t.0 == tuple.0) ids ≡ (is_some (fin.get plan.tuples t) && not (is_hot plan.layout t))
+host_tuples plan t ids sound is =
+    ap (λ (l : List TupleId). list_any (λ tuple. t.0 == tuple.0) l) is
+    ∙ listed t (host_rows plan)
+    ∙ sym (is_seen (rows.find tuple_cmp t (host_rows plan)))
+    ∙ sym (ap is_some (first_value (host_rows plan) t))
+    ∙ sym (ap (λ (m : Store). is_some (fin.get m t)) (opening_store plan))
+    ∙ stored_same plan (opening plan) (opening_is_reached plan sound) t
+
+-- the store that has the first value of each of them is the model's
+pub first_store : (plan : Plan) (found : List (TupleId × ℤ)) (hosts : Tuples) (store : Store) → found ≡ host_rows plan → hosts ≡ fin.from_sorted found → ((t : TupleId) → fin.get store t ≡ option_map first_seen (fin.get hosts t)) → store ≡ (opening plan).store
+first_store plan found hosts store listed same is =
+    fin.same_map tuple_cmp_total tuple_cmp_exact store (first_rows (host_rows plan))
+    (λ t. is t ∙ ap (λ (m : Tuples). option_map first_seen (fin.get m t)) (same ∙ ap fin.from_sorted listed) ∙ ap (option_map first_seen) (fin.get-from_sorted tuple_cmp (host_rows plan) t (ascend plan)) ∙ sym (first_value (host_rows plan) t))
+    ∙ sym (opening_store plan)
+
+-- a client of the model at the opening
+pub begun : (plan : Plan) (c : ℕ) → c < length plan.clients → client_in (first_clients plan.clients) c ≡ at_item (length (items_of plan c)) 1 zero_stamp
+begun plan c lt = get_or-map (λ items. at_item (length items) 1 zero_stamp) plan.clients c [] (at_item 0 1 zero_stamp) lt
+
+-- what holds of each place of a list, and of one more element
+pub pushed : {X : Type 0} (P : ℕ → X → Type 0) (xs more : List X) (x : X) (k : ℕ) → length xs ≡ k → more ≡ xs ++ x ∷ [] → ((c : ℕ) (other : X) → c < k → P c (get_or xs c other)) → P k x → (c : ℕ) (other : X) → c < k + 1 → P c (get_or more c other)
+pushed P xs more x k len is all last c other lt = subst (λ l. P c (get_or l c other)) (sym is) (elim (cases_lt c k) [
+  | inl below ↦ subst (P c) (sym (get_or_append_left xs (x ∷ []) other c (omega (arith, below, len)))) (all c other below)
+  | inr above ↦ let here : length xs ≡ c = omega (arith, above, lt, len) in
+      subst (λ (n : ℕ). P n (get_or (xs ++ x ∷ []) n other)) here (subst (P (length xs)) (sym (get_or-append_seam xs x [] other)) (subst (λ (n : ℕ). P n x) (sym len) last))
+])

@@ -1,49 +1,44 @@
--- What the code knows of a client whose turn it is.
-use Rattle.std.proofs.Common.{◌≡◌, ℕ, ◌+◌, ◌<◌, ◌≤◌, nat_lt, Bool, true, List, [], ◌∷◌, length, get_or, unwrap_or, Option, Some, None, inl, inr, refl, ap, ◌∙◌, arith, if◌then◌else◌}
+-- What the code knows of a client whose turn it is, and of its next action.
+use Rattle.std.proofs.Common.{◌≡◌, ◌≢◌, ℕ, ◌<◌, ◌≤◌, nat_lt, Bool, true, List, [], ◌∷◌, length, get_or, set, unwrap_or, Option, Some, None, inl, inr, sym, ap, subst, ◌∙◌, arith, if◌then◌else◌}
+use Rattle.std.specs.Prelude.{sum_by, option_and_then}
 use Rattle.std.specs.List.{AllByRecursion}
 use Rattle.std.proofs.lemmas.Bool.{cases_lt}
 use Rattle.std.proofs.lemmas.Bool.Decides.{nat_tests}
 use Rattle.std.proofs.lemmas.List.{get_or_past}
-use Rattle.txn_model.specs.ScriptCheck.{script_fault}
-use Rattle.txn_model.specs.declared.op.Op.{Op}
-use Rattle.catalogue.specs.Plan.{Plan, items_of, script_of}
-use Rattle.catalogue.specs.declared.actor.Actor.TheVariants.{Client}
-use Rattle.catalogue.proofs.SoundLaws.{sound_script}
-use Rattle.client_phase.specs.Moves.{move_of}
-use Rattle.client_phase.specs.NextAction.{next_action}
-use Rattle.client_phase.specs.Shown.{plain_client, room_of, shown}
-use Rattle.client_phase.specs.declared.action.Action.{Action}
-use Rattle.client_phase.specs.declared.client_state.ClientState as code
-use Rattle.client_phase.proofs.NextMoves as moves
-use Rattle.core_model.specs.Facts.{FitsPhase}
-use Rattle.core_model.specs.Laws.{IsReached}
-use Rattle.core_model.specs.Room.{IsSmall}
-use Rattle.core_model.specs.declared.phase.Phase.TheVariants.{Finished}
-use Rattle.core_model.proofs.SmallBounds.{moves_small}
-use Rattle.core_model.proofs.SmallStamps.{fits_room}
-use Rattle.client_phase.proofs.Kept.{met-within}
-use Rattle.txn_model.specs.declared.stamp.Seen.{Seen}
-use Rattle.std.proofs.Common.{◌≢◌}
-use Rattle.std.specs.Prelude.{sum_by}
 use Rattle.std.proofs.lemmas.List.Sums.{get_or-le-sum_by}
-use Rattle.catalogue.specs.Plan.{PlainItem}
+use Rattle.txn_model.specs.declared.op.Op.{Op}
+use Rattle.txn_model.specs.declared.stamp.Seen.{Seen}
+use Rattle.warm_split.specs.Parts.{IsParts}
+use Rattle.catalogue.specs.Plan.{Plan, PlainItem, Run, Lose, items_of, item_of, script_in, script_of}
 use Rattle.catalogue.specs.Sound.{IsSound}
-use Rattle.core_model.specs.State.{ClientState, State, client_at, script_now}
-use Rattle.core_model.specs.Step.{client_step, step}
+use Rattle.catalogue.specs.declared.actor.Actor.TheVariants.{Client}
+use Rattle.core_model.specs.State.{ClientState, at_item, script_now, zero_stamp}
+use Rattle.core_model.specs.declared.phase.Phase.TheVariants.{Ready, Finished}
 use Rattle.core_model.proofs.Decided.{IsDistinct}
 use Rattle.core_model.proofs.Legal.{all_distinct}
-use Rattle.core_model.proofs.Reached.{clients_stay, cold_now, holds_of, present_of}
-use Rattle.fabric_core.proofs.Shown.{as_many, kept_at}
-use Rattle.fabric_core.specs.Standing.{IsTurnIn, action_in}
+use Rattle.core_model.proofs.Moves.{moved_client}
+use Rattle.client_phase.specs.Fits.{Fits, FitsAny, FitsMet, ops_of}
+use Rattle.client_phase.specs.Laws.{HasParts, IsAt, IsAtScript, ClientsFit, Makes}
+use Rattle.client_phase.specs.Moves.{move_of}
+use Rattle.client_phase.specs.NextAction.{next_action, script_action}
+use Rattle.client_phase.specs.Shown.{PlainClient, plain_client, shown_now, shown_met}
+use Rattle.client_phase.specs.Stepped.{stepped}
+use Rattle.client_phase.specs.declared.action.Action.{Action}
+use Rattle.client_phase.specs.declared.action.Met.{Met}
+use Rattle.client_phase.proofs.Callers.{clients_fit_their_scripts, met-within}
+use Rattle.client_phase.proofs.NextMoves.{actions_are_moves}
+use Rattle.fabric_model.specs.Laws.{IsReached}
+use Rattle.fabric_model.specs.Room.{IsSmall}
+use Rattle.fabric_model.specs.State.{State, client_at}
+use Rattle.fabric_model.specs.Step.{client_step, step}
+use Rattle.fabric_model.proofs.Present.{clients_stay, present_of}
+use Rattle.fabric_model.proofs.SmallBounds.{small_bound}
+use Rattle.fabric_model.proofs.SmallStamps.{fits_room}
+use Rattle.fabric_core.specs.Standing.{AreRunners, IsActionIn, IsRunner, IsTurnIn}
+use Rattle.fabric_core.specs.Steps.{CanStep, HasStepped}
 use Rattle.fabric_core.specs.declared.core_state.CoreState.{CoreState}
-
--- a script with an operation is that of an item, and has no fault
-pub fit_now : (plan : Plan) (s : State) (c : ℕ) → IsReached plan s → 1 ≤ length (script_now plan c (client_at s c)) → script_fault (script_now plan c (client_at s c)) ≡ None
-fit_now plan s c reached some = by (script_of plan c (client_at s c).seq) refl some
-  where
-    by : (o : Option (List Op)) → script_of plan c (client_at s c).seq ≡ o → 1 ≤ length (unwrap_or o []) → script_fault (unwrap_or o []) ≡ None
-    by (Some ops) is n = (sound_script plan c (client_at s c).seq ops reached.sound is).script
-    by None is n = absurd (omega (arith, n))
+use Rattle.fabric_core.specs.declared.runner.Runner.{Runner}
+use Rattle.fabric_core.proofs.Runners.{runner_stepped, runners_set}
 
 -- a client has no more items than all of them
 pub few_items : (plan : Plan) (c : ℕ) → IsSound plan → length (items_of plan c) ≤ 4096
@@ -55,62 +50,143 @@ few_items plan c sound = by plan.clients c sound.limits.items
       | inr past ↦ omega (arith, ap length (get_or_past lists d [] past))
     ]
 
-module _ (plan : Plan) (core : CoreState) (c at : ℕ) (s : State) (turn : IsTurnIn plan core c at s) where
+-- a reached state has made few moves
+pub few_moves : (plan : Plan) (s : State) → IsReached plan s → s.moves ≤ 2039808
+few_moves plan s reached = omega (arith, (fits_room plan s reached).moves, small_bound plan reached.sound)
+
+module _ {plan : Plan} {core : CoreState} {c at : ℕ} {s : State} (turn : IsTurnIn plan core (Client c) at s) where
   abbrev x : ClientState
   x = client_at s c
-
-  pub few_clients : length s.clients ≤ 8
-  few_clients = omega (arith, clients_stay plan s turn.reached, turn.reached.sound.limits.clients)
 
   pub within_clients : c < length s.clients
   within_clients = omega (arith, clients_stay plan s turn.reached, turn.within)
 
-  pub within_kept : c < length core.clients.items
-  within_kept = omega (arith, within_clients, as_many plan 0 core.clients.items s.clients turn.stands.clients)
-
-  pub client_kept : (d : code.ClientState) → plain_client (get_or core.clients.items c d) ≡ shown (script_now plan c x) x
-  client_kept d = kept_at plan 0 c core.clients.items s.clients d turn.stands.clients within_clients ∙ ap (λ (n : ℕ). shown (script_now plan n x) x) {x = 0 + c} {y = c} (omega arith)
-
-  -- the client that was found at its place
-  pub kept_is : {k : code.ClientState} (d : code.ClientState) → k ≡ get_or core.clients.items c d → plain_client k ≡ shown (script_now plan c x) x
-  kept_is {k} d found = ap plain_client found ∙ client_kept d
-
-  pub space_kept : (d : code.ClientState) → 16 ≤ room_of (get_or core.clients.items c d)
-  space_kept d = turn.stands.space c d within_kept
-
-  pub space_is : {k : code.ClientState} (d : code.ClientState) → k ≡ get_or core.clients.items c d → 16 ≤ room_of k
-  space_is {k} d found = omega (arith, ap room_of found, space_kept d)
+  pub within_kept : c < length core.runners.items
+  within_kept = omega (arith, within_clients, turn.stands.runners.count)
 
   pub distinct_now : (d : ℕ) → IsDistinct (script_now plan d (client_at s d))
   distinct_now d = all_distinct plan turn.reached.sound d (client_at s d).seq
 
-  pub fits_now : FitsPhase plan c x x.phase
-  fits_now = (holds_of plan s turn.reached).facts.fits c
-
-  -- the stamps that it has are small
   pub last_small : x.last.sub ≤ 2039808
-  last_small = omega (arith, (fits_room plan s turn.reached).last c, moves_small plan s turn.reached)
+  last_small = omega (arith, ((fits_room plan s turn.reached).last c).sub, few_moves plan s turn.reached)
 
-  pub met_small : (ops : List Op) → (shown ops x).met.sub ≤ 2039808
-  met_small ops = met-within ops x 2039808 (subs x.noted ((fits_room plan s turn.reached).noted c))
+  pub met_small : (shown_met x x.phase).sub ≤ 2039808
+  met_small = met-within x 2039808 (subs x.noted ((fits_room plan s turn.reached).noted c))
     where
-      subs : (noted : List Seen) → AllByRecursion (λ seen. IsSmall s.moves seen.stamp) noted → AllByRecursion (λ seen. seen.stamp.sub ≤ 2039808) noted
+      subs : (noted : List Seen) → AllByRecursion (λ seen. IsSmall plan s seen.stamp) noted → AllByRecursion (λ seen. seen.stamp.sub ≤ 2039808) noted
       subs [] all = tt
-      subs (seen ∷ noted) all = (omega (arith, all.0, moves_small plan s turn.reached), subs noted all.1)
+      subs (seen ∷ noted) all = (omega (arith, all.0.sub, few_moves plan s turn.reached), subs noted all.1)
 
-  -- so is the number of its item
-  pub seq_small : x.phase ≢ Finished → (1 ≤ x.seq) × (x.seq ≤ 4096) × (x.refused < plan.tries)
+  pub seq_small : x.phase ≢ Finished → (x.seq ≤ 4096) × (x.refused < plan.tries)
   seq_small active =
       let here = present_of plan s turn.reached c active in
-      (here.0, omega (arith, here.1, few_items plan c turn.reached.sound), here.2)
+      (omega (arith, here.1, few_items plan c turn.reached.sound), here.2)
 
-  pub step_is : (a : Action) → action_in plan s c ≡ a → step plan s (Client c) ≡ move_of plan s c x a
+  pub step_here : step plan s (Client c) ≡ client_step plan s c x x.phase
   unfolding step
-  step_is a is =
-      ap (λ (b : Bool). if b then client_step plan s c x x.phase else None) (below c (length s.clients) within_clients)
-      ∙ moves.actions_are_moves plan s c x x.phase
-      ∙ ap (λ (n : ℕ). move_of plan s c x (next_action x.phase (length x.noted) x.installed n)) (ap length (cold_now plan s c turn.reached))
-      ∙ ap (move_of plan s c x) is
+  step_here = ap (λ (b : Bool). if b then client_step plan s c x x.phase else None) (below c (length s.clients) within_clients)
     where
       below : (a b : ℕ) → a < b → nat_lt a b ≡ true
       below a b lt = grind (arith, nat_tests)
+
+  -- the runner at its place
+  module _ {r : Runner} (here : r ≡ get_or core.runners.items c r) where
+    pub is_runner : IsRunner plan c x r
+    is_runner = subst (IsRunner plan c x) (sym here) (turn.stands.runners.each c r within_clients)
+
+    pub has_parts : HasParts plan c x r.parts
+    has_parts ops is = subst (λ (l : List Op). IsParts plan.layout l r.parts) (ap (λ (o : Option (List Op)). unwrap_or o []) is) is_runner.parts
+
+    pub clients_fit : ClientsFit plan s c r.parts
+    clients_fit = clients_fit_their_scripts plan s c r.parts turn.reached has_parts
+
+    pub seq_kept : r.state.seq ≡ x.seq
+    seq_kept = ap (λ (p : PlainClient). p.seq) is_runner.kept
+
+    pub last_kept : r.state.last ≡ x.last
+    last_kept = ap (λ (p : PlainClient). p.last) is_runner.kept
+
+module _ {plan : Plan} {core : CoreState} {c at : ℕ} {present : PlainItem} {action : Action} {s : State} (a : IsActionIn plan core c at present action s) where
+  abbrev y : ClientState
+  y = client_at s c
+
+  module _ {r : Runner} (here : r ≡ get_or core.runners.items c r) where
+    kept : plain_client r.state ≡ shown_now plan c y
+    kept = (is_runner a.turn here).kept
+
+    next_kept : next_action r.parts (plain_client r.state) (Some present) ≡ action
+    next_kept = ap (λ (k : Runner). next_action k.parts (plain_client k.state) (Some present)) here ∙ a.next r
+
+    pub next_now : next_action r.parts (shown_now plan c y) (Some present) ≡ action
+    next_now = ap (λ (p : PlainClient). next_action r.parts p (Some present)) (sym kept) ∙ next_kept
+
+    pub item_fits : IsAt plan c y r.parts (Some present)
+    item_fits = subst (IsAt plan c y r.parts) a.item (clients_fit a.turn here).at
+
+    pub step_is : step plan s (Client c) ≡ move_of plan s c y action
+    step_is =
+        step_here a.turn
+        ∙ actions_are_moves plan s c y r.parts (clients_fit a.turn here).at
+        ∙ ap (λ (o : Option PlainItem). move_of plan s c y (next_action r.parts (shown_now plan c y) o)) a.item
+        ∙ ap (move_of plan s c y) next_now
+
+    fits : Fits r.parts present (plain_client r.state)
+    fits = subst (Fits r.parts present) (sym kept) (subst (FitsAny r.parts (shown_now plan c y)) a.item (clients_fit a.turn here).fits).1
+
+    pub unfinished : y.phase ≢ Finished
+    unfinished = not_finished present item_fits
+      where
+        not_finished : (item : PlainItem) → IsAt plan c y r.parts (Some item) → y.phase ≢ Finished
+        not_finished (Run ops) is = is.unfinished
+        not_finished Lose is = λ e. let clash : Ready ≡ Finished = sym is.0 ∙ e in cc
+
+    pub can_step : (met : Met) → FitsMet action met → CanStep plan present r action met
+    can_step met meets =
+        let small = seq_small a.turn unfinished in
+        record {
+          fits = fits;
+          space = (is_runner a.turn here).space;
+          next = sym next_kept;
+          meets = meets;
+          tries = omega (arith, ap (λ (p : PlainClient). p.refused) kept, small.1);
+          seq = omega (arith, ap (λ (p : PlainClient). p.seq) kept, small.0);
+          last = omega (arith, ap (λ (p : PlainClient). p.last.sub) kept, last_small a.turn);
+          met_sub = omega (arith, ap (λ (p : PlainClient). p.met.sub) kept, met_small a.turn);
+        }
+
+    pub item_kept : item_of plan c r.state.seq ≡ Some present
+    item_kept = ap (item_of plan c) (seq_kept a.turn here) ∙ a.item
+
+    -- where its item is a script
+    module _ {ops : List Op} (is : present ≡ Run ops) where
+      pub script_is : script_of plan c y.seq ≡ Some ops
+      script_is = ap (option_and_then script_in) (a.item ∙ ap (λ (i : PlainItem). Some i) is)
+
+      pub ops_now : script_now plan c y ≡ ops
+      ops_now = ap (λ (o : Option (List Op)). unwrap_or o []) script_is
+
+      pub at_script : IsAtScript plan c y r.parts
+      at_script = subst (λ (i : PlainItem). IsAt plan c y r.parts (Some i)) is item_fits
+
+      pub action_is : script_action r.parts (script_now plan c y) (shown_now plan c y) y.phase ≡ action
+      action_is =
+          ap (λ (l : List Op). script_action r.parts l (shown_now plan c y) y.phase) ops_now
+          ∙ ap (λ (i : PlainItem). next_action r.parts (shown_now plan c y) (Some i)) (sym is)
+          ∙ next_now
+
+      -- behind its part of the move
+      module _ {met : Met} {new : Runner} (next : State) (z : ClientState) (clients : next.clients ≡ set s.clients c z) (has : HasStepped plan c present r new action met) (makes : Makes plan c y r.parts next action met (shown_now plan c y)) where
+        pub runner_behind : IsRunner plan c z new
+        runner_behind =
+            let same : client_at next c ≡ z = ap (λ (l : List ClientState). get_or l c (at_item 0 1 zero_stamp)) clients ∙ moved_client s.clients c z (within_clients a.turn) in
+            let as_made : shown_now plan c z ≡ stepped r.parts (ops_of present) (length (items_of plan c)) plan.tries action met (plain_client r.state) =
+            ap (shown_now plan c) (sym same)
+            ∙ makes
+            ∙ ap (λ (l : List Op). stepped r.parts l (length (items_of plan c)) plan.tries action met (shown_now plan c y)) (ops_now ∙ ap ops_of (sym is))
+            ∙ ap (stepped r.parts (ops_of present) (length (items_of plan c)) plan.tries action met) (sym kept) in
+            runner_stepped plan c present r new action met z y.seq has (seq_kept a.turn here) (is_runner a.turn here).parts (is_runner a.turn here).space as_made
+
+        pub runners_behind : AreRunners plan next.clients (set core.runners.items c new)
+        runners_behind =
+            subst (λ (l : List ClientState). AreRunners plan l (set core.runners.items c new)) (sym clients)
+            (runners_set plan s.clients core.runners.items c z new (within_clients a.turn) a.turn.stands.runners runner_behind)

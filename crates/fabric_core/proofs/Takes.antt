@@ -7,14 +7,17 @@ use Rattle.std.proofs.lemmas.List.{reverse-append}
 use Rattle.catalogue.specs.Plan.{Plan}
 use Rattle.catalogue.specs.declared.actor.Actor.{Actor}
 use Rattle.catalogue.specs.declared.actor.Actor.TheVariants.{Client, Port, Stage, Recover}
-use Rattle.core_model.specs.Bound.{moves_left}
-use Rattle.core_model.specs.Laws.{IsFinished, IsReached}
-use Rattle.core_model.specs.Rota.{all_finished, after_turns, driven_from, moved_by, movers, numbers_below, rota}
-use Rattle.core_model.specs.Run.{opening, state_of}
-use Rattle.core_model.specs.State.{State}
-use Rattle.core_model.proofs.Driven.{driven_again, finished_by_test, reached_turns, rota_lessens}
-use Rattle.core_model.proofs.Reached.{state_of-append}
-use Rattle.core_model.proofs.Turns.{behind_turns, driven_done, driven_parts, movers-append, movers_done}
+use Rattle.fabric_model.specs.Bound.{moves_left}
+use Rattle.fabric_model.specs.Driven.{IsFinished, IsRound}
+use Rattle.fabric_model.specs.Laws.{IsReached}
+use Rattle.core_model.specs.Rota.{numbers_below, rota, rotas}
+use Rattle.fabric_model.specs.Bound.{move_bound}
+use Rattle.fabric_model.specs.Rota.{all_finished, after_turns, driven_from, moved_by, movers}
+use Rattle.fabric_model.specs.Run.{opening, state_of}
+use Rattle.fabric_model.specs.State.{State}
+use Rattle.fabric_model.proofs.Driven.{finished_by_test, reached_turns, round_of, state_of_parts}
+use Rattle.fabric_model.proofs.Legal.{holds}
+use Rattle.fabric_model.proofs.Turns.{behind_turns, driven_parts, movers-append, movers_done, turns_are}
 use Rattle.fabric_core.specs.Running.{Running, state_in, taken, with_moves}
 use Rattle.fabric_core.specs.Turns.{IsTurn}
 use Rattle.fabric_core.specs.declared.turn.Turn.{Turn}
@@ -29,7 +32,7 @@ more_moves run moves more = ap (λ (l : List Actor). record { plan = run.plan; t
 
 made_turns : {R : Type 0} (run : Running R) (actors : List Actor) → IsRun run → state_of run.plan (taken run actors).trace ≡ Some (after_turns run.plan (state_in run) actors)
 made_turns run actors is =
-    state_of-append run.plan run.trace (movers run.plan (state_in run) actors) (state_in run) (after_turns run.plan (state_in run) actors) is.made (behind_turns run.plan (state_in run) actors)
+    state_of_parts run.plan run.trace (movers run.plan (state_in run) actors) (state_in run) is.made ∙ behind_turns run.plan (state_in run) actors
 
 pub taken_state : {R : Type 0} (run : Running R) (actors : List Actor) → IsRun run → state_in (taken run actors) ≡ after_turns run.plan (state_in run) actors
 taken_state run actors is = ap (λ (o : Option State). unwrap_or o (opening run.plan)) (made_turns run actors is)
@@ -38,6 +41,7 @@ pub taken_run : {R : Type 0} (run : Running R) (actors : List Actor) → IsRun r
 taken_run run actors is = record {
   reached = subst (IsReached run.plan) (sym (taken_state run actors is)) (reached_turns run.plan (state_in run) actors is.reached);
   made = made_turns run actors is ∙ ap Some (sym (taken_state run actors is));
+  losses = is.losses;
 }
 
 -- actors that are taken, and then others, are all taken
@@ -128,22 +132,38 @@ parts_on run actors is =
 pub driven_listed : {R : Type 0} (run next : Running R) (actors : List Actor) → IsRun run → next ≡ taken run actors → driven_on next [] ≡ driven_on run actors
 driven_listed run next actors is same = ap (λ (r : Running _). driven_on r []) same ∙ parts_on run actors is
 
+-- where the rota is taken again and again, taking it once more first changes nothing
+round_on : {R : Type 0} (now : Running R) → IsRun now → all_finished (state_in now) ≡ false → driven_on now (rota now.plan) ≡ driven_on now []
+round_on now is more =
+    let plan = now.plan in
+    let s = state_in now in
+    let round : IsRound plan s = round_of plan (holds plan) is.losses s is.reached more in
+    ap (with_moves now)
+    (driven_parts plan s (rota plan) ∙ ap (λ (z : State). movers plan s (rota plan) ++ driven_from plan z []) (turns_are plan s round.next (rota plan) round.run) ∙ sym round.driven)
+
+driven_done : (plan : Plan) (s : State) → all_finished s ≡ true → driven_from plan s [] ≡ []
+unfolding driven_from
+driven_done plan s done = movers_done plan s (rotas plan (move_bound plan)) done
+
 -- a run that is on its way to its end
 pub record IsDriving {R : Type 0} (old now : Running R) : Type 0 where
   pub run : IsRun now
   pub whole : driven_on now [] ≡ driven_on old []
 
-pub driving_round : {R : Type 0} (old now next : Running R) → IsDriving old now → next ≡ taken now (rota now.plan) → IsDriving old next
-driving_round old now next is same = subst (IsDriving old) (sym same) (record {
+pub driving_round : {R : Type 0} (old now next : Running R) (b : Bool) → IsDriving old now → IsTrue b ↔ IsFinished (state_in now) → b ≡ false → next ≡ taken now (rota now.plan) → IsDriving old next
+driving_round old now next b is test more same = subst (IsDriving old) (sym same) (record {
   run = taken_run now (rota now.plan) is.run;
-  whole = parts_on now (rota now.plan) is.run ∙ ap (with_moves now) (sym (driven_again now.plan (state_in now) is.run.reached)) ∙ is.whole;
+  whole = parts_on now (rota now.plan) is.run ∙ round_on now is.run (finished_test (state_in now) b test ∙ more) ∙ is.whole;
 })
 
 pub driving_lessens : {R : Type 0} (now next : Running R) (b : Bool) → IsRun now → IsTrue b ↔ IsFinished (state_in now) → b ≡ false → next ≡ taken now (rota now.plan)
     → moves_left next.plan (state_in next) < moves_left now.plan (state_in now)
 driving_lessens now next b run test is same =
-    subst (λ (r : Running _). moves_left r.plan (state_in r) < moves_left now.plan (state_in now)) (sym same)
-    (subst (λ (s : State). moves_left now.plan s < moves_left now.plan (state_in now)) (sym (taken_state now (rota now.plan) run)) (rota_lessens now.plan (state_in now) run.reached (finished_test (state_in now) b test ∙ is)))
+    let plan = now.plan in
+    let s = state_in now in
+    let round : IsRound plan s = round_of plan (holds plan) run.losses s run.reached (finished_test s b test ∙ is) in
+    subst (λ (r : Running _). moves_left r.plan (state_in r) < moves_left plan s) (sym same)
+    (subst (λ (z : State). moves_left plan z < moves_left plan s) (sym (taken_state now (rota plan) run ∙ turns_are plan s round.next (rota plan) round.run)) round.fewer)
 
 pub driving_ends : {R : Type 0} (old now : Running R) (b : Bool) → IsDriving old now → IsTrue b ↔ IsFinished (state_in now) → b ≡ true → now ≡ driven_on old []
-driving_ends old now b is test done = sym (no_moves now) ∙ ap (with_moves now) (sym (driven_done now.plan (state_in now) [] (finished_test (state_in now) b test ∙ done))) ∙ is.whole
+driving_ends old now b is test done = sym (no_moves now) ∙ ap (with_moves now) (sym (driven_done now.plan (state_in now) (finished_test (state_in now) b test ∙ done))) ∙ is.whole

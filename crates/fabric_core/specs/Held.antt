@@ -7,7 +7,7 @@ use Rattle.catalogue.specs.Plan.{Plan}
 use Rattle.host_locks.specs.Locks.{Locks, mode_held}
 use Rattle.host_locks.specs.declared.mode.Mode.{Mode}
 use Rattle.host_locks.specs.declared.mode.Mode.TheVariants.{Shared, Exclusive}
-use Rattle.core_model.specs.State.{State, client_at}
+use Rattle.fabric_model.specs.State.{State, client_at}
 use Rattle.core_model.specs.Locks.{held}
 
 -- the mode of the lock for an operation: shared where it only reads

@@ -4,18 +4,18 @@ use Rattle.txn_model.specs.Listed.{Listed}
 use Rattle.catalogue.specs.Plan.{Plan}
 use Rattle.catalogue.specs.Sound.{IsSound}
 use Rattle.catalogue.specs.declared.actor.Actor.{Actor}
-use Rattle.core_model.specs.Bound.{move_bound}
-use Rattle.core_model.specs.Built.{has_cold_items}
-use Rattle.core_model.specs.Run.{state_of, state_now}
+use Rattle.fabric_model.specs.Bound.{move_bound}
+use Rattle.fabric_model.specs.Driven.{has_no_loss}
+use Rattle.fabric_model.specs.Run.{state_of, state_now}
 use Rattle.fabric_core.specs.Standing.{StandsFor}
 use Rattle.fabric_core.specs.declared.core_state.CoreState.{CoreState}
 
--- the session is the named one, sound, and of transactions on hosts alone; what is kept stands for the state that the trace makes of
--- its opening; and there is room for all moves that may come
+-- the session is the named one, sound, and without losses; what is kept stands for the state that the trace makes of its
+-- opening; and there is room for all moves that may come
 pub record IsKept (session plan : Plan) (core : CoreState) (trace : Listed Actor) : Type 0 where
   pub named : plan ≡ session
   pub sound : IsSound plan
-  pub built : has_cold_items plan ≡ true
+  pub losses : has_no_loss plan ≡ true
   pub run : state_of plan trace.items ≡ Some (state_now plan trace.items)
   pub stands : StandsFor plan (state_now plan trace.items) core
   pub space : move_bound plan ≤ length trace.items + trace.spare

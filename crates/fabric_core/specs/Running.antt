@@ -2,9 +2,9 @@
 use Rattle.std.specs.Prelude.{List, ◌++◌}
 use Rattle.catalogue.specs.Plan.{Plan}
 use Rattle.catalogue.specs.declared.actor.Actor.{Actor}
-use Rattle.core_model.specs.Rota.{movers}
-use Rattle.core_model.specs.Run.{state_now}
-use Rattle.core_model.specs.State.{State}
+use Rattle.fabric_model.specs.Rota.{movers}
+use Rattle.fabric_model.specs.Run.{state_now}
+use Rattle.fabric_model.specs.State.{State}
 
 -- what is run, who moved so far, and the logs
 pub record Running (R : Type 0) : Type 0 where

@@ -1,59 +1,94 @@
 -- When what the code keeps of a run stands for a state of the model.
-use Rattle.std.specs.Prelude.{◌≡◌, ◌<◌, ◌≤◌, ◌+◌, ◌*◌, ℕ, List, [], ◌∷◌, map, length, All, Some, is_some}
+use Rattle.std.specs.Prelude.{◌≡◌, ◌<◌, ◌≤◌, ◌+◌, ◌*◌, ◌&&◌, ℕ, List, length, not, is_some, slice_index_or, vec_capacity, Option, Some}
 use Rattle.std.specs.FinMap as fin
-use Rattle.txn_model.specs.declared.op.Op.{Op}
 use Rattle.txn_model.specs.declared.op.TupleId.{TupleId}
-use Rattle.catalogue.specs.Plan.{Plan}
-use Rattle.catalogue.specs.Sound.{item_count}
+use Rattle.stage_layout.specs.Late.{is_hot}
+use Rattle.switch_packet.specs.Packets as packets
+use Rattle.switch_packet.specs.declared.limits.TheConstants.{LONGEST_TEXT}
+use Rattle.warm_split.specs.Parts.{IsParts}
+use Rattle.catalogue.specs.Plan.{Plan, PlainItem, item_of, items_of}
+use Rattle.catalogue.specs.Sound.{IsActor, item_count}
+use Rattle.catalogue.specs.declared.actor.Actor.{Actor}
 use Rattle.catalogue.specs.declared.actor.Actor.TheVariants.{Client}
 use Rattle.host_locks.specs.Locks.{has_tuple}
-use Rattle.core_model.specs.Laws.{IsReached}
-use Rattle.core_model.specs.State.{ClientState, State, client_at, script_now}
-use Rattle.core_model.specs.Step.{step}
+use Rattle.switch_model.specs.Switch.{Switch}
+use Rattle.pipeline.specs.Plain.{PlainPipeline}
+use Rattle.pipeline.specs.Shows.{Shows}
+use Rattle.log_records.specs.Records.{PlainRecords}
+use Rattle.core_model.specs.State.{ClientState, at_item, script_now, zero_stamp}
 use Rattle.history_core.specs.Runs.{runs_of}
 use Rattle.client_phase.specs.NextAction.{next_action}
-use Rattle.client_phase.specs.Shown.{PlainClient, plain_client, room_of, shown}
+use Rattle.client_phase.specs.Shown.{plain_client, room_of, shown}
 use Rattle.client_phase.specs.declared.action.Action.{Action}
+use Rattle.fabric_model.specs.Laws.{IsReached}
+use Rattle.fabric_model.specs.State.{Records, State, client_at, no_records}
+use Rattle.fabric_model.specs.Step.{step}
 use Rattle.fabric_core.specs.Held.{HasLocks}
 use Rattle.fabric_core.specs.declared.core_state.CoreState.{CoreState}
+use Rattle.fabric_core.specs.declared.runner.Runner.{Runner}
 
--- what is kept of the clients, which begin with client c
-abbrev pub shown_from : Plan → ℕ → List ClientState → List PlainClient
-shown_from plan c [] = []
-shown_from plan c (x ∷ clients) = shown (script_now plan c x) x ∷ shown_from plan (c + 1) clients
+-- what is kept of a client shows this one of the model, has room for 16 pairs, and has the parts of its present script
+pub record IsRunner (plan : Plan) (c : ℕ) (x : ClientState) (runner : Runner) : Type 0 where
+  pub kept : plain_client runner.state ≡ shown plan.layout (script_now plan c x) x
+  pub space : 16 ≤ room_of runner.state
+  pub parts : IsParts plan.layout (script_now plan c x) runner.parts
 
--- the code has the state's clients, locks, store, history and refusals, and room for all that may come
+abbrev pub client_in : List ClientState → ℕ → ClientState
+client_in clients c = slice_index_or clients c (at_item 0 1 zero_stamp)
+
+-- each client is kept, in order
+pub record AreRunners (plan : Plan) (clients : List ClientState) (runners : List Runner) : Type 0 where
+  pub count : length runners ≡ length clients
+  pub each : (c : ℕ) (other : Runner) → c < length clients → IsRunner plan c (client_in clients c) (slice_index_or runners c other)
+
+-- the log of a client has these records, and room for one of each kind for each of its items
+pub record IsLog (plan : Plan) (c : ℕ) (records : Records) (log : PlainRecords) : Type 0 where
+  pub intents : log.intents ≡ records.intents
+  pub outcomes : log.outcomes ≡ records.outcomes
+  pub space : log.room ≡ length (items_of plan c)
+
+-- each client has its log, in order
+pub record AreLogs (plan : Plan) (logs : List Records) (kept : List PlainRecords) : Type 0 where
+  pub count : length kept ≡ length logs
+  pub each : (c : ℕ) (other : PlainRecords) → c < length logs → IsLog plan c (slice_index_or logs c no_records) (slice_index_or kept c other)
+
+-- the switch is up, and the pipeline shows it
+pub record IsUp (plan : Plan) (switch : Option Switch) (pipeline : PlainPipeline) : Type 0 where
+  pub now : Switch
+  pub up : switch ≡ Some now
+  pub shows : Shows plan.shape pipeline now
+
+-- the code has the state's clients, logs, switch, locks, store, history and refusals, and room for all that may come; locks are
+-- those of the tuples on hosts
 pub record StandsFor (plan : Plan) (s : State) (core : CoreState) : Type 0 where
-  pub clients : map plain_client core.clients.items ≡ shown_from plan 0 s.clients
-  pub space : All (λ client. 16 ≤ room_of client) core.clients.items
+  pub runners : AreRunners plan s.clients core.runners.items
+  pub logs : AreLogs plan s.logs core.logs.items
+  pub switch : IsUp plan s.switch core.pipeline
   pub locks : HasLocks plan s core.locks
-  pub tuples : (t : TupleId) → has_tuple core.locks t ≡ is_some (fin.get plan.tuples t)
+  pub tuples : (t : TupleId) → has_tuple core.locks t ≡ (is_some (fin.get plan.tuples t) && not (is_hot plan.layout t))
   pub store : core.store ≡ s.store
   pub history : core.history.items ≡ s.history
   pub runs : core.history.runs ≡ runs_of plan
   pub refusals : core.refusals.items ≡ s.refusals
   pub refused : plan.tries * item_count plan ≤ length core.refusals.items + core.refusals.spare
+  pub packet : 16 ≤ packets.room_of core.packet.ops
+  pub text : LONGEST_TEXT ≤ vec_capacity core.text
 
--- a client's next action in a state
-abbrev pub action_in : Plan → State → ℕ → Action
-action_in plan s c = let x = client_at s c in next_action x.phase (length x.noted) x.installed (length (script_now plan c x))
-
--- the code stands for a state that is reached without losses, behind this many moves, and it is the turn of one of the clients
-pub record IsTurnIn (plan : Plan) (core : CoreState) (c at : ℕ) (s : State) : Type 0 where
+-- it is the turn of one of the session's actors, and the code stands for a state that is reached, behind this many moves
+pub record IsTurnIn (plan : Plan) (core : CoreState) (actor : Actor) (at : ℕ) (s : State) : Type 0 where
   pub reached : IsReached plan s
   pub stands : StandsFor plan s core
-  pub within : c < length plan.clients
+  pub within : IsActor plan actor
   pub moves : s.moves ≡ at
 
--- it is one's turn whose present script and next action are these
-pub record IsActionIn (plan : Plan) (core : CoreState) (c at : ℕ) (ops : List Op) (action : Action) (s : State) : Type 0 where
-  pub turn : IsTurnIn plan core c at s
-  pub script : script_now plan c (client_at s c) ≡ ops
-  pub some : 1 ≤ length ops
-  pub next : action_in plan s c ≡ action
+-- it is the turn of a client at this item, and this is its next action
+pub record IsActionIn (plan : Plan) (core : CoreState) (c at : ℕ) (present : PlainItem) (action : Action) (s : State) : Type 0 where
+  pub turn : IsTurnIn plan core (Client c) at s
+  pub item : item_of plan c (client_at s c).seq ≡ Some present
+  pub next : (other : Runner) → let runner = slice_index_or core.runners.items c other in next_action runner.parts (plain_client runner.state) (Some present) ≡ action
 
--- the client moves, and the code stands for the state behind its move
-pub record Follows (plan : Plan) (s : State) (c : ℕ) (core : CoreState) : Type 0 where
+-- the actor moves, and the code stands for the state behind its move
+pub record Follows (plan : Plan) (s : State) (actor : Actor) (core : CoreState) : Type 0 where
   pub next : State
-  pub step : step plan s (Client c) ≡ Some next
+  pub step : step plan s actor ≡ Some next
   pub stands : StandsFor plan next core

@@ -1,7 +1,7 @@
 -- What a turn makes of a run.
 use Rattle.std.specs.Prelude.{◌≡◌, [], ◌∷◌, IsSome, None}
 use Rattle.catalogue.specs.declared.actor.Actor.{Actor}
-use Rattle.core_model.specs.Step.{step}
+use Rattle.fabric_model.specs.Step.{step}
 use Rattle.fabric_core.specs.Running.{Running, state_in, with_moves}
 use Rattle.fabric_core.specs.declared.turn.Turn.{Turn}
 use Rattle.fabric_core.specs.declared.turn.Turn.TheVariants.{Moved, Idle}

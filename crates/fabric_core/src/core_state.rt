@@ -1,148 +1,82 @@
-//! What a world keeps of its clients and hosts, and the moves of a client.
+//! What a world keeps of its clients, the switch and the hosts, and the moves of each actor.
 //!
 //! Each move of the code is the model's: it leads to what the model's step makes of the state.
 
-ghost use Rattle.std.specs.Prelude.{◌≡◌, ℕ, IfOk, None, MatchBool};
-ghost use Rattle.std.specs.Option.{option_map};
-ghost use Rattle.catalogue.specs.Plan.{script_of};
+ghost use Rattle.std.specs.Prelude.{◌≡◌, None, MatchBool};
 ghost use Rattle.catalogue.specs.PlanOf.{plan_of};
-ghost use Rattle.catalogue.specs.Sound.{IsSound};
 ghost use Rattle.catalogue.specs.declared.actor.Actor.TheVariants.{Client};
-ghost use Rattle.core_model.specs.Run.{opening};
-ghost use Rattle.core_model.specs.State.{State};
-ghost use Rattle.core_model.specs.Step as model;
-ghost use Rattle.fabric_core.specs.Held.{mode_of};
-ghost use Rattle.fabric_core.specs.Standing.{StandsFor, IsTurnIn, IsActionIn, Follows};
+ghost use Rattle.fabric_model.specs.State.{State};
+ghost use Rattle.fabric_model.specs.Step as model;
+ghost use Rattle.fabric_core.specs.Standing.{IsTurnIn, Follows};
 
-use crate::first::{first_clients, tuple_ids};
-use crate::room::item_count;
-use catalogue::Session;
-use client_phase::{Action, ClientState};
+use crate::runner::Runner;
+use catalogue::{Actor, Item, Session};
+use client_phase::Action;
 use core_model::Refusal;
-use history_core::{Entry, History};
-use host_locks::{Grant, LockTable, Mode};
+use history_core::History;
+use host_locks::LockTable;
 use host_store::HostStore;
-use std::alloc::Global;
-use txn_model::{Act, Items, NoMemory, Op, Script};
+use log_records::ClientLog;
+use pipeline::Pipeline;
+use switch_packet::Packet;
+use txn_model::Items;
 
-/// The clients, and what they share.
+/// The clients with their logs, the switch, the hosts, the history and the refusals; and a packet with
+/// the room for its text, in which clients make theirs.
 #[derive(Debug, Drop)]
 pub(crate) struct CoreState {
-    pub clients: Vec<ClientState>,
+    pub runners: Vec<Runner>,
+    pub logs: Vec<ClientLog>,
+    pub pipeline: Pipeline,
     pub locks: LockTable,
     pub store: HostStore,
     pub history: History,
     pub refusals: Items<Refusal>,
+    pub packet: Packet,
+    pub text: Vec<u8>,
 }
 
 impl CoreState {
-    /// What there is before the first move, with room for all that may come.
-    pub fn opening(alloc: Global, session: &Session) -> Result<CoreState, NoMemory>
-        requires { IsSound (plan_of session.now) }
-        ensures { IfOk result (λ core. StandsFor (plan_of session.now) (opening (plan_of session.now)) core) }
+    /// Lets an actor take its turn, behind this many moves; false where it can't move.
+    pub fn turn(&mut self, session: &Session, actor: Actor, at: u32) -> bool
+        requires { (s : State) × IsTurnIn (plan_of session.now) self.old actor at s }
+        ensures { (s : State) → IsTurnIn (plan_of session.now) self.old actor at s
+            → MatchBool result (Follows (plan_of session.now) s actor self.new)
+            ((model.step (plan_of session.now) s actor ≡ None) × (self.new ≡ self.old)) }
     {
-        let most = usize::from(session.tries) * item_count(session);
-        let ids = tuple_ids(alloc, &session.tuples)?;
-        Ok(CoreState {
-            clients: first_clients(alloc, session)?,
-            locks: LockTable::fresh(alloc, ids.as_slice())?,
-            store: HostStore::fresh(alloc, &session.tuples)?,
-            history: History::for_session(alloc, session)?,
-            refusals: Items::of(Vec::with_capacity(alloc, most)?),
-        })
+        match actor {
+            Actor::Client(client) => self.step(session, client, at),
+            Actor::Port(client) => self.enter_port(session, client),
+            Actor::Stage(stage) => self.advance(session, stage),
+            // The switch isn't lost.
+            Actor::Recover => false,
+        }
     }
 
     /// Lets a client take its turn, behind this many moves; false where it can't move.
-    pub fn step(&mut self, session: &Session, client: u8, at: u32) -> bool
-        requires { (s : State) × IsTurnIn (plan_of session.now) self.old client at s }
-        ensures { (s : State) → IsTurnIn (plan_of session.now) self.old client at s
-            → MatchBool result (Follows (plan_of session.now) s client self.new)
+    fn step(&mut self, session: &Session, client: u8, at: u32) -> bool
+        requires { (s : State) × IsTurnIn (plan_of session.now) self.old (Client client) at s }
+        ensures { (s : State) → IsTurnIn (plan_of session.now) self.old (Client client) at s
+            → MatchBool result (Follows (plan_of session.now) s (Client client) self.new)
             ((model.step (plan_of session.now) s (Client client) ≡ None) × (self.new ≡ self.old)) }
     {
-        let Some(script) = session.script(client, self.clients[client as usize].seq) else {
+        let runner = &self.runners[client as usize];
+        let Some(item) = session.item(client, runner.state.seq) else {
             return false;
         };
-        match self.clients[client as usize].next_action(script.len()) {
-            Action::Lock(_) => self.ask(session, script, client, at),
-            Action::Release(_) => self.release(session, script, client),
-            Action::Decide => self.decide(session, script, client),
-            Action::Install(_) => self.install(session, script, client),
-            Action::Rest => return false,
+        let Item::Run(script) = item else {
+            return false;
+        };
+        match runner.action(item) {
+            Action::Lock(number) => self.ask(session, item, script, client, number, at),
+            Action::Release(number) => self.release(session, item, script, client, number),
+            Action::Decide => self.decide(session, item, client),
+            Action::LogIntent => self.log_intent(session, item, script, client),
+            Action::Post => self.post(session, item, client),
+            Action::LogOutcome => return self.take_answer(session, item, script, client),
+            Action::Install(number) => self.install(session, item, script, client, number),
+            Action::Lose | Action::Rest => return false,
         }
         true
-    }
-
-    /// Asks for the lock of the script's next operation.
-    fn ask(&mut self, session: &Session, script: &Script, client: u8, at: u32)
-        requires { (s : State) × (k : ℕ) × IsActionIn (plan_of session.now) self.old client at script.now.items (Action.Lock k) s }
-        ensures { (s : State) (k : ℕ) → IsActionIn (plan_of session.now) self.old client at script.now.items (Action.Lock k) s
-            → Follows (plan_of session.now) s client self.new }
-    {
-        let state = &mut self.clients[client as usize];
-        let op = script.get(usize::from(state.locked));
-        match self.locks.try_lock(op.tuple, mode_of(op), client) {
-            Grant::Granted => state.grant(script, self.store.read(op.tuple)),
-            Grant::HeldBy(holder) => {
-                self.refusals.push(Refusal {
-                    client,
-                    seq: state.seq,
-                    tuple: op.tuple,
-                    holder,
-                    at,
-                });
-                state.refuse(session.items(client), session.tries);
-            }
-        }
-    }
-
-    /// Releases the lock that the client took last.
-    fn release(&mut self, session: &Session, script: &Script, client: u8)
-        requires { (s : State) × (k : ℕ) × (at : ℕ) × IsActionIn (plan_of session.now) self.old client at script.now.items (Action.Release k) s }
-        ensures { (s : State) (k at : ℕ) → IsActionIn (plan_of session.now) self.old client at script.now.items (Action.Release k) s
-            → Follows (plan_of session.now) s client self.new }
-    {
-        let state = &mut self.clients[client as usize];
-        let op = script.get(usize::from(state.locked) - 1);
-        self.locks.unlock(op.tuple, client);
-        state.release(session.items(client), session.tries);
-    }
-
-    /// Decides the client's transaction, and puts it into the history with its reply.
-    fn decide(&mut self, session: &Session, script: &Script, client: u8)
-        requires { (s : State) × (at : ℕ) × IsActionIn (plan_of session.now) self.old client at script.now.items Action.Decide s }
-        ensures { (s : State) (at : ℕ) → IsActionIn (plan_of session.now) self.old client at script.now.items Action.Decide s
-            → Follows (plan_of session.now) s client self.new }
-    {
-        let state = &mut self.clients[client as usize];
-        state.decide();
-        self.history.insert(Entry {
-            stamp: state.last,
-            client,
-            seq: state.seq,
-        });
-        self.history.answer(client, state.seq, &state.pairs);
-    }
-
-    /// Installs the client's next value, and releases its lock.
-    fn install(&mut self, session: &Session, script: &Script, client: u8)
-        requires { (s : State) × (k : ℕ) × (at : ℕ) × IsActionIn (plan_of session.now) self.old client at script.now.items (Action.Install k) s }
-        ensures { (s : State) (k at : ℕ) → IsActionIn (plan_of session.now) self.old client at script.now.items (Action.Install k) s
-            → Follows (plan_of session.now) s client self.new }
-    {
-        let state = &mut self.clients[client as usize];
-        let op = script.get(usize::from(state.installed));
-        let pair = state.pairs.get(state.installed);
-        self.store.install(op.tuple, pair.now, state.last);
-        self.locks.unlock(op.tuple, client);
-        state.install(script.len() as u8, session.items(client));
-    }
-}
-
-fn mode_of(op: &Op) -> Mode
-    ensures { result ≡ mode_of op.now }
-{
-    match op.act {
-        Act::Read => Mode::Shared,
-        Act::Put { .. } | Act::Add { .. } | Act::Choose { .. } => Mode::Exclusive,
     }
 }

@@ -1,34 +1,98 @@
 //! What is there before the first move.
 
-ghost use Rattle.std.specs.Prelude.{◌≡◌, ◌≤◌, map, All, IfOk};
-ghost use Rattle.std.specs.FinMap.{keys};
+ghost use Rattle.std.specs.Prelude.{◌≡◌, ◌≤◌, length, map, IfOk};
 ghost use Rattle.catalogue.specs.PlanOf.{plan_of};
-ghost use Rattle.client_phase.specs.Shown.{plain_client, room_of};
+ghost use Rattle.catalogue.specs.Sound.{IsSound};
 ghost use Rattle.core_model.specs.Run.{first_clients};
-ghost use Rattle.fabric_core.specs.Standing.{shown_from};
+ghost use Rattle.fabric_model.specs.Run.{host_rows, opening};
+ghost use Rattle.fabric_model.specs.State.{no_records};
+ghost use Rattle.fabric_core.specs.Standing.{AreLogs, AreRunners, StandsFor};
 
+use crate::core_state::CoreState;
+use crate::room::item_count;
+use crate::runner::Runner;
 use catalogue::Session;
-use client_phase::ClientState;
+use history_core::History;
+use host_locks::LockTable;
+use host_store::HostStore;
+use log_records::ClientLog;
+use pipeline::Pipeline;
 use std::alloc::Global;
-use txn_model::{NoMemory, TupleId, TupleMap};
+use switch_packet::{LONGEST_TEXT, Packet};
+use txn_model::{Items, NoMemory, TupleId, TupleMap};
 
-/// Each client at its first item, with room for its pairs.
-pub(crate) fn first_clients(alloc: Global, session: &Session) -> Result<Vec<ClientState>, NoMemory>
-    ensures clients { IfOk result (λ states. map plain_client states.items ≡ shown_from (plan_of session.now) 0 (first_clients (plan_of session.now).clients)) }
-    ensures space { IfOk result (λ states. All (λ client. 16 ≤ room_of client) states.items) }
-{
-    let clients = session.clients();
-    let mut states = Vec::with_capacity(alloc, usize::from(clients))?;
-    for client in 0..clients {
-        states.push(ClientState::fresh(alloc, session.items(client))?)?;
+impl CoreState {
+    /// What there is before the first move, with room for all that may come.
+    pub fn opening(alloc: Global, session: &Session) -> Result<CoreState, NoMemory>
+        requires { IsSound (plan_of session.now) }
+        ensures { IfOk result (λ core. StandsFor (plan_of session.now) (opening (plan_of session.now)) core) }
+    {
+        let rows = host_rows(alloc, session)?;
+        let ids = tuple_ids(alloc, rows.as_slice())?;
+        let most = usize::from(session.tries) * item_count(session);
+        Ok(CoreState {
+            runners: first_runners(alloc, session)?,
+            logs: first_logs(alloc, session)?,
+            pipeline: Pipeline::fresh(
+                alloc,
+                &session.shape,
+                &session.layout,
+                &session.tuples,
+                session.clients(),
+            )?,
+            locks: LockTable::fresh(alloc, ids.as_slice())?,
+            store: HostStore::fresh(alloc, &TupleMap::of(alloc, rows.as_slice())?)?,
+            history: History::for_session(alloc, session)?,
+            refusals: Items::of(Vec::with_capacity(alloc, most)?),
+            packet: Packet::blank(alloc)?,
+            text: Vec::with_capacity(alloc, LONGEST_TEXT)?,
+        })
     }
-    Ok(states)
 }
 
-/// The tuples of a map, in order.
-pub(crate) fn tuple_ids(alloc: Global, tuples: &TupleMap) -> Result<Vec<TupleId>, NoMemory>
-    ensures { IfOk result (λ ids. ids.items ≡ keys tuples.now) }
+/// Each client at the first of its items.
+fn first_runners(alloc: Global, session: &Session) -> Result<Vec<Runner>, NoMemory>
+    requires { IsSound (plan_of session.now) }
+    ensures { IfOk result (λ runners. AreRunners (plan_of session.now) (first_clients (plan_of session.now).clients) runners.items) }
 {
-    let ids = tuples.rows().iter().map(|row| row.0).collect(alloc)?;
+    let clients = session.clients();
+    let mut runners = Vec::with_capacity(alloc, usize::from(clients))?;
+    for client in 0..clients {
+        runners.push(Runner::fresh(alloc, session, client)?)?;
+    }
+    Ok(runners)
+}
+
+/// A log for each client, with room for one record of each kind for each of its items.
+fn first_logs(alloc: Global, session: &Session) -> Result<Vec<ClientLog>, NoMemory>
+    requires { IsSound (plan_of session.now) }
+    ensures { IfOk result (λ logs. AreLogs (plan_of session.now) (map (λ items. no_records) (plan_of session.now).clients) logs.items) }
+{
+    let clients = session.clients();
+    let mut logs = Vec::with_capacity(alloc, usize::from(clients))?;
+    for client in 0..clients {
+        logs.push(ClientLog::fresh(alloc, session.items(client) as usize)?)?;
+    }
+    Ok(logs)
+}
+
+/// The tuples of hosts with their first values, in order.
+fn host_rows(alloc: Global, session: &Session) -> Result<Vec<(TupleId, i64)>, NoMemory>
+    ensures { IfOk result (λ rows. rows.items ≡ host_rows (plan_of session.now)) }
+{
+    let mut rows = Vec::new(alloc);
+    for row in session.tuples.rows() {
+        if !session.is_hot(row.0) {
+            rows.push(*row)?;
+        }
+    }
+    Ok(rows)
+}
+
+/// The tuples of rows, in order.
+fn tuple_ids(alloc: Global, rows: &[(TupleId, i64)]) -> Result<Vec<TupleId>, NoMemory>
+    ensures { IfOk result (λ ids. ids.items ≡ map (λ row. row.0) rows.now) }
+{
+    let ids = rows.iter().map(|row| row.0).collect(alloc)?;
     Ok(ids)
 }

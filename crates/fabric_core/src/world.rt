@@ -7,14 +7,17 @@ ghost use Rattle.catalogue.specs.Plan.{item_of};
 ghost use Rattle.catalogue.specs.PlanOf.{plan_of};
 ghost use Rattle.catalogue.specs.Sound.{IsSound, IsActor};
 ghost use Rattle.catalogue.specs.declared.actor.Actor.TheVariants.{Client, Port, Stage};
-ghost use Rattle.core_model.specs.Bound.{move_bound};
-ghost use Rattle.core_model.specs.Built.{has_cold_items};
-ghost use Rattle.core_model.specs.Laws.{IsFinished, IsReached};
-ghost use Rattle.core_model.specs.Rota.{driven_from, is_finished, numbers_below, rota};
-ghost use Rattle.core_model.specs.Run.{opening, state_of};
-ghost use Rattle.core_model.specs.State.{seen_at, client_at};
-ghost use Rattle.core_model.specs.Ends as ends;
+ghost use Rattle.core_model.specs.Rota.{is_finished, numbers_below, rota};
+ghost use Rattle.fabric_model.specs.Bound.{move_bound};
+ghost use Rattle.fabric_model.specs.Driven.{has_no_loss, IsFinished};
+ghost use Rattle.fabric_model.specs.Ends as ends;
+ghost use Rattle.fabric_model.specs.Laws.{IsReached, tuple_now};
+ghost use Rattle.fabric_model.specs.Rota.{driven_from};
+ghost use Rattle.fabric_model.specs.Run.{opening, state_of};
+ghost use Rattle.fabric_model.specs.State.{client_at};
+ghost use Rattle.history_core.specs.Runs.{runs_of};
 ghost use Rattle.fabric_core.specs.Running.{state_in, taken, with_moves};
+ghost use Rattle.fabric_core.specs.Slots.{slot_now};
 ghost use Rattle.fabric_core.specs.Standing.{StandsFor};
 ghost use Rattle.fabric_core.specs.Turns.{IsTurn};
 
@@ -22,9 +25,9 @@ use crate::core_state::CoreState;
 use crate::ends::{loss_end, script_end};
 use crate::name::RunName;
 use crate::room::move_bound;
+use crate::runner::Runner;
 use crate::turn::{BeginFault, End, Turn};
 use catalogue::{Actor, Actors, Item, Session};
-use client_phase::ClientState;
 use core_model::{ItemEnd, Phase, Refusal};
 use history_core::History;
 use port_io::LogRack;
@@ -35,7 +38,7 @@ use txn_model::{Items, NoMemory, TupleId};
 /// A run that has begun: its session, and the state that the moves so far have made.
 ///
 /// The name is a part of the type, so that a world that comes back from elsewhere is still a run of the
-/// same session. The logs are kept for the caller, and not used yet.
+/// same session. The logs are kept for the caller, and not used yet: records are kept in memory alone.
 #[derive(Drop)]
 pub struct World<L: LogRack, N: RunName> {
     session: Session,
@@ -62,11 +65,11 @@ impl<L: LogRack, N: RunName> Model for World<L, N> {
 }
 
 impl<L: LogRack, N: RunName> World<L, N> {
-    /// Takes all room that the run of a session needs. Today each of its items is a transaction on hosts
-    /// alone. After a fault the logs are handed back.
+    /// Takes all room that the run of a session needs: after this no call of the world takes memory. Today no
+    /// item of the session loses the switch. After a fault the logs are handed back.
     pub fn begin(alloc: Global, session: Session, rack: L) -> Result<World<L, N>, (L, BeginFault)>
         requires sound { IsSound (plan_of session) }
-        requires built { has_cold_items (plan_of session) ≡ true }
+        requires losses { has_no_loss (plan_of session) ≡ true }
 
         // The run is named after its session and its rack.
         requires named { plan_of session ≡ N.session }
@@ -92,23 +95,11 @@ impl<L: LogRack, N: RunName> World<L, N> {
         requires { IsActor self.old.plan actor }
         ensures { IsTurn self.old self.new actor result }
     {
-        match actor {
-            Actor::Client(client) => self.move_client(client),
-            // These are idle as long as no transaction needs the switch.
-            Actor::Port(_) | Actor::Stage(_) | Actor::Recover => Turn::Idle,
-        }
-    }
-
-    /// Lets a client take its turn.
-    fn move_client(&mut self, client: u8) -> Turn
-        requires { client < length self.old.plan.clients }
-        ensures { IsTurn self.old self.new (Client client) result }
-    {
         let at = self.trace.len() as u32;
-        if !self.core.step(&self.session, client, at) {
+        if !self.core.turn(&self.session, actor, at) {
             return Turn::Idle;
         }
-        self.trace.push(Actor::Client(client));
+        self.trace.push(actor);
         Turn::Moved
     }
 
@@ -197,11 +188,11 @@ impl<L: LogRack, N: RunName> World<L, N> {
         }
     }
 
-    /// Whether no client has anything left to do.
+    /// Whether no client has anything left to do. The switch is always up.
     pub fn finished(&self) -> bool
         ensures { IsTrue result ↔ IsFinished (state_in self.now) }
     {
-        have_finished(self.core.clients.as_slice())
+        have_finished(self.core.runners.as_slice())
     }
 
     /// What is run.
@@ -209,7 +200,7 @@ impl<L: LogRack, N: RunName> World<L, N> {
         ensures plan { plan_of result.now ≡ self.now.plan }
         ensures named { self.now.plan ≡ N.session }
         ensures sound { IsSound self.now.plan }
-        ensures built { has_cold_items self.now.plan ≡ true }
+        ensures losses { has_no_loss self.now.plan ≡ true }
     {
         &self.session
     }
@@ -223,9 +214,10 @@ impl<L: LogRack, N: RunName> World<L, N> {
         self.trace.as_slice()
     }
 
-    /// The entries so far, in stamp order.
+    /// The entries so far, in stamp order, over the items of the session.
     pub fn history(&self) -> &History
-        ensures { result.now.items ≡ (state_in self.now).history }
+        ensures items { result.now.items ≡ (state_in self.now).history }
+        ensures runs { result.now.runs ≡ runs_of self.now.plan }
     {
         &self.core.history
     }
@@ -242,7 +234,7 @@ impl<L: LogRack, N: RunName> World<L, N> {
         requires { IsSome (item_of self.now.plan client seq) }
         ensures { result ≡ ends.item_end self.now.plan (state_in self.now) client seq }
     {
-        let present = self.core.clients[client as usize].seq;
+        let present = self.core.runners[client as usize].state.seq;
         match self.session.item(client, seq) {
             Some(Item::Run(_)) => script_end(&self.core.history, client, seq, present),
             Some(Item::Lose) => loss_end(seq, present),
@@ -250,12 +242,16 @@ impl<L: LogRack, N: RunName> World<L, N> {
         }
     }
 
-    /// The value that the tuple has now.
+    /// The value that the tuple has now: in its register, where it has a place in the switch, and else on its
+    /// host.
     pub fn tuple_now(&self, tuple: TupleId) -> i64
         requires { IsSome (get self.now.plan.tuples tuple) }
-        ensures { result ≡ (seen_at (state_in self.now).store tuple).value }
+        ensures { result ≡ tuple_now self.now.plan (state_in self.now) tuple }
     {
-        self.core.store.read(tuple).value
+        match self.session.layout.place_of(tuple) {
+            Some(place) => self.core.pipeline.register(place),
+            None => self.core.store.read(tuple).value,
+        }
     }
 
     /// What the client is about to do.
@@ -263,7 +259,15 @@ impl<L: LogRack, N: RunName> World<L, N> {
         requires { client < length self.now.plan.clients }
         ensures { result ≡ (client_at (state_in self.now) client).phase }
     {
-        self.core.clients[client as usize].phase
+        self.core.runners[client as usize].state.phase
+    }
+
+    /// The client whose packet stands in the slot of this stage; None where the slot is empty, or there is no such
+    /// stage.
+    pub fn slot(&self, stage: u8) -> Option<u8>
+        ensures { result ≡ slot_now (state_in self.now) stage }
+    {
+        self.core.pipeline.slot(stage)
     }
 
     /// The logs.
@@ -287,10 +291,10 @@ fn room_of(alloc: Global, session: &Session) -> Result<(CoreState, Actors), NoMe
 }
 
 /// Whether none of the clients has anything left to do.
-fn have_finished(clients: &[ClientState]) -> bool
-    ensures { result ≡ list_all (λ client. is_finished client.phase) clients.now }
+fn have_finished(runners: &[Runner]) -> bool
+    ensures { result ≡ list_all (λ runner. is_finished runner.state.phase) runners.now }
 {
-    clients
+    runners
         .iter()
-        .all(|client| matches!(client.phase, Phase::Finished))
+        .all(|runner| matches!(runner.state.phase, Phase::Finished))
 }

@@ -1,4 +1,4 @@
--- Lemmas on clients, items and lists that core_model keeps to itself.
+-- Lemmas on clients, items and lists.
 use Rattle.std.proofs.Common.{◌≡◌, ◌≢◌, ◌⊎◌, ℕ, zero, suc, ◌+◌, ◌*◌, ◌<◌, ◌≤◌, ◌==◌, ◌&&◌, ◌||◌, nat_lt, nat_le, Bool, true, false, List, [], ◌∷◌, ◌++◌, append-nil, append_assoc, map, filter, length, drop, get_or, slice_get, Some, inl, inr, refl, sym, ap, subst, ◌∙◌, arith, if◌then◌else◌, eq-or-lt_of_le, Less}
 use Rattle.std.specs.List.{list_all, list_any, AllByRecursion}
 use Rattle.std.proofs.lemmas.Bool.Decides.{nat_tests}

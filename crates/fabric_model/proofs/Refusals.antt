@@ -7,7 +7,6 @@ use Rattle.catalogue.specs.declared.actor.Actor.{Actor}
 use Rattle.catalogue.specs.declared.actor.Actor.TheVariants.{Client}
 use Rattle.core_model.specs.declared.refusal.Refusal.{Refusal}
 use Rattle.core_model.specs.Asking.{IsAsking}
-use Rattle.core_model.specs.State as core
 use Rattle.core_model.proofs.Holders.{least_of_holder}
 use Rattle.core_model.proofs.Refusals.{taken_front, at_front}
 use Rattle.core_model.proofs.StepsOf.{all_append}
@@ -56,10 +55,6 @@ refusals_of plan s after actor (ByClient c within move) = of_client plan s c aft
 refusals_of plan s after actor (AtPort c now next up to is) = inl (ap (λ (z : State). z.refusals) is ∙ at_port s c (desk_at now c) (next_number now) next)
 refusals_of plan s after actor (AtStage x now next up to is) = inl (ap (λ (z : State). z.refusals) is)
 
--- the clients and their locks, without the switch
-abbrev pub on_hosts : State → core.State
-on_hosts s = record { clients = s.clients; store = s.store; history = s.history; refusals = s.refusals; moves = s.moves }
-
 true_refusals : (plan : Plan) (rest done : List Actor) (s after : State) → state_of plan done ≡ Some s → s.moves ≡ length done → AllByRecursion (IsTrue plan (done ++ rest)) s.refusals → state_behind plan s rest ≡ Some after
     → AllByRecursion (IsTrue plan (done ++ rest)) after.refusals
 true_refusals plan [] done s after run count all e = subst (λ (z : State). AllByRecursion (IsTrue plan (done ++ [])) z.refusals) (same e) all
@@ -85,7 +80,7 @@ true_refusals plan (actor ∷ rest) done s after run count all e =
       op = r.op;
       next = r.next;
       tuple = refl;
-      holder = least_of_holder plan (on_hosts s) r.client r.op r.by r.held;
+      holder = least_of_holder plan s.clients r.client r.op r.by r.held;
     }
 
     all_true : (next : State) → Moved plan s next actor → AllByRecursion (IsTrue plan (done ++ actor ∷ rest)) next.refusals

@@ -31,7 +31,6 @@ use Rattle.fabric_model.proofs.Legal.{holds}
 use Rattle.fabric_model.proofs.MoveKinds.{Move, Grants, Refuses, Releases, Decides, Logs, Posts, Takes, Installs, Moved, ByClient, AtPort, AtStage, move_of}
 use Rattle.fabric_model.proofs.PerClient.{client_now, client_then}
 use Rattle.fabric_model.proofs.Present.{reply_to, stamp_of, clients_at_port, clients_at_stage}
-use Rattle.fabric_model.proofs.Refusals.{on_hosts}
 
 -- one more of a list, the last of its front, and the first behind a place
 one_more_taken : {X : Type 0} (xs : List X) (n : ℕ) (x : X) → slice_get xs n ≡ Some x → take (suc n) xs ≡ take n xs ++ x ∷ []
@@ -139,7 +138,7 @@ module _ (plan : Plan) (s next : State) (c : ℕ) (lt : c < length s.clients) (h
           op = op;
           phase = asks;
           asked = asked;
-          free = free_of_holder plan (on_hosts s) c op free;
+          free = free_of_holder plan s.clients c op free;
           locks = ap (held plan c) (mine y clients) ∙ ap (λ (n : ℕ). drop n (take (length (x.noted ++ seen_at s.store op.tuple ∷ [])) ops)) none ∙ ap (λ (n : ℕ). take n ops) more ∙ one_more_taken ops (length x.noted) op asked
               ∙ ap (λ (l : List Op). l ++ op ∷ []) (sym (at_start none));
         })),

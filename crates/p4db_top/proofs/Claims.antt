@@ -1,38 +1,42 @@
--- A finished run of a session on hosts is serial, has each item once, and its aborts have causes.
-use Rattle.std.proofs.Common.{◌≡◌, ◌≢◌, ℕ, zero, suc, ◌+◌, ◌-◌, ◌<◌, ◌≤◌, ◌==◌, ◌&&◌, ◌||◌, nat_lt, Bool, true, false, cond, if◌then◌else◌, List, [], ◌∷◌, ◌++◌, map, filter, find, length, reverse, slice_get, get_or, Option, Some, None, IsSome, inl, inr, refl, sym, ap, subst, ◌∙◌, arith}
+-- A finished run of a session is serial, has each item once, and its aborts have causes.
+use Rattle.std.proofs.Common.{◌≡◌, ◌≢◌, ℕ, zero, suc, ◌+◌, ◌-◌, ◌<◌, ◌≤◌, ◌==◌, ◌&&◌, Bool, true, false, cond, if◌then◌else◌, List, [], ◌∷◌, ◌++◌, map, filter, find, length, reverse, slice_get, get_or, Option, Some, None, IsSome, is_some, unwrap_or, refl, sym, ap, subst, ◌∙◌, arith}
 use Rattle.std.specs.List.{flat_map, range_with_len, list_all, list_any, AllByRecursion}
 use Rattle.std.specs.Option.{option_and_then, option_map}
 use Rattle.std.proofs.lemmas.Bool.Decides.{nat_tests}
 use Rattle.std.proofs.lemmas.List.{reverse-append}
 use Rattle.std.proofs.lemmas.List.Concat.{flat_map_single}
 use Rattle.txn_model.specs.declared.op.Op.{Op}
-use Rattle.catalogue.specs.Plan.{Plan, PlainItem, Run, Lose, items_of, item_of, script_in, script_of, script_at, kind_of}
+use Rattle.catalogue.specs.Plan.{Plan, PlainItem, items_of, item_of, script_in, script_of, script_at, kind_of}
 use Rattle.catalogue.specs.declared.actor.Actor.{Actor}
-use Rattle.catalogue.specs.declared.kind.Kind.{Kind}
-use Rattle.catalogue.specs.declared.kind.Kind.TheVariants.{Hot, Cold}
-use Rattle.history_model.specs.History.{HistoryEntry, History}
+use Rattle.catalogue.specs.declared.kind.Kind.TheVariants.{Hot, Warm, Cold}
+use Rattle.stage_layout.specs.Late.{is_hot}
+use Rattle.stage_layout.specs.declared.layout.LayoutRow.{LayoutRow}
+use Rattle.history_model.specs.History.{HistoryEntry}
 use Rattle.core_model.specs.declared.phase.Phase.TheVariants.{Finished}
 use Rattle.core_model.specs.declared.refusal.Refusal.{Refusal}
-use Rattle.core_model.specs.Built.{has_cold_items, is_cold_item}
-use Rattle.core_model.specs.Ends.{item_end, refused_times, IsEnded}
+use Rattle.core_model.specs.Ends.{refused_times}
+use Rattle.core_model.specs.Rota.{numbers_below}
+use Rattle.core_model.specs.State.{ClientState, at_item, zero_stamp}
 use Rattle.core_model.specs.declared.item_end.ItemEnd.{ItemEnd}
 use Rattle.core_model.specs.declared.item_end.ItemEnd.TheVariants.{Pending, Committed, Aborted, Lost}
-use Rattle.core_model.specs.Laws.{IsReached, IsFinished}
-use Rattle.core_model.specs.Rota.{numbers_below}
-use Rattle.core_model.specs.Run.{state_of}
-use Rattle.core_model.specs.State.{ClientState, State, at_item, client_at, zero_stamp}
-use Rattle.core_model.proofs.Cold.{cold_from_items}
 use Rattle.core_model.proofs.Decide.{item_at_place}
 use Rattle.core_model.proofs.Fewer.{each_entry}
-use Rattle.core_model.proofs.Legal.{legal_history, serial_values, items_in_order}
-use Rattle.core_model.proofs.Fixed.{stamps_above}
-use Rattle.core_model.proofs.ItemEnds.{items_end}
-use Rattle.core_model.proofs.Refusals.{refusals_of_run}
-use Rattle.core_model.proofs.Rising.{rising_stamps}
+use Rattle.fabric_model.specs.Driven.{has_no_loss, IsFinished}
+use Rattle.fabric_model.specs.Ends.{item_end, IsEnded}
+use Rattle.fabric_model.specs.Laws.{IsReached}
+use Rattle.fabric_model.specs.Run.{state_of}
+use Rattle.fabric_model.specs.State.{State, client_at}
+use Rattle.fabric_model.proofs.Ended.{items_end}
+use Rattle.fabric_model.proofs.InOrder.{items_in_order}
+use Rattle.fabric_model.proofs.Legal.{holds, legal_now, values_now}
+use Rattle.fabric_model.proofs.Refusals.{refusals_of_run}
+use Rattle.fabric_model.proofs.Refused.{hot_are_not_refused}
+use Rattle.fabric_model.proofs.Rising.{rising_stamps}
+use Rattle.fabric_model.proofs.StampsAbove.{stamps_above}
 use Rattle.report_text.specs.Report.{PlainEnd, EndedItem}
 use Rattle.report_text.specs.RunReport.{last_refusal, given_up, told_by, reply_to, end_told, with_end, item_told, client_told}
 use Rattle.p4db_top.specs.Serial.{IsSerial, name_of, IsOnceEach, HaveCauses}
-use Rattle.p4db_top.proofs.Placed.{IsOfItem, are_placed}
+use Rattle.p4db_top.proofs.Placed.{IsOfItem, are_placed, are_of_items}
 
 -- the item with a number from 1 to the number of items
 item_there : (plan : Plan) (c seq : ℕ) → 1 ≤ seq → seq ≤ length (items_of plan c) → (item : PlainItem) × (item_of plan c seq ≡ Some item)
@@ -68,10 +72,10 @@ finished_at (x ∷ clients) (suc d) all = finished_at clients d all.1
 module _ (plan : Plan) (s : State) (reached : IsReached plan s) (finished : IsFinished s) where
   -- each client is behind each of its items
   all_past : (c seq : ℕ) → seq ≤ length (items_of plan c) → seq < (client_at s c).seq
-  all_past c seq within = omega (arith, within, ((are_placed plan s reached).each c).behind (finished_at s.clients c finished))
+  all_past c seq within = omega (arith, within, (are_placed plan s reached c).behind (finished_at s.clients c finished.clients))
 
   ended : (c seq : ℕ) → IsSome (item_of plan c seq) → IsEnded plan s c seq
-  ended c seq some = items_end plan s reached c seq some (all_past c seq (place_of_item plan c seq some).1)
+  ended c seq some = items_end plan (holds plan) s reached c seq some (all_past c seq (place_of_item plan c seq some).1)
 
 -- what is found in front of others, or behind them
 found_before : (test : Refusal → Bool) (a b : List Refusal) → IsSome (find test a) → IsSome (find test (a ++ b))
@@ -142,7 +146,7 @@ map-flat_map f (i ∷ l) = split (f i) (flat_map f l) ∙ ap (λ (r : List (ℕ 
     split [] b = refl
     split (x ∷ a) b = ap (λ (r : List (ℕ × ℕ)). (x.client, x.seq) ∷ r) (split a b)
 
--- a session on hosts loses no switch
+-- each item of a session without losses is a transaction
 passes : {X : Type 0} (test : X → Bool) (l : List X) (k : ℕ) (x : X) → list_all test l ≡ true → slice_get l k ≡ Some x → test x ≡ true
 passes test [] k x all at = cc
 passes test (y ∷ l) zero x all at = ap test (same at) ∙ front (test y) (list_all test l) all
@@ -168,36 +172,41 @@ passes_at test (l ∷ lists) (suc c) none all = passes_at test lists c none (res
     rest true b e = e
     rest false b e = cc
 
-cold_item : (plan : Plan) (c seq : ℕ) (item : PlainItem) → has_cold_items plan ≡ true → item_of plan c seq ≡ Some item → is_cold_item plan.layout item ≡ true
-cold_item plan c seq item cold is = by (seq == 0) is
+script_there : (plan : Plan) (c seq : ℕ) (item : PlainItem) → has_no_loss plan ≡ true → item_of plan c seq ≡ Some item → is_some (script_in item) ≡ true
+script_there plan c seq item none is = by (seq == 0) is
   where
-    by : (b : Bool) → (if b then None else slice_get (items_of plan c) (seq - 1)) ≡ Some item → is_cold_item plan.layout item ≡ true
+    by : (b : Bool) → (if b then None else slice_get (items_of plan c) (seq - 1)) ≡ Some item → is_some (script_in item) ≡ true
     by true e = cc
-    by false e = passes (is_cold_item plan.layout) (items_of plan c) (seq - 1) item (passes_at (λ items. list_all (is_cold_item plan.layout) items) plan.clients c refl cold) e
+    by false e = passes (λ i. is_some (script_in i)) (items_of plan c) (seq - 1) item (passes_at (λ items. list_all (λ i. is_some (script_in i)) items) plan.clients c refl none) e
 
-entry_is_item's : (plan : Plan) (e : HistoryEntry) → has_cold_items plan ≡ true → IsOfItem plan e → IsSome (script_of plan e.entry.client e.entry.seq)
-entry_is_item's plan e cold at =
+entry_is_item's : (plan : Plan) (e : HistoryEntry) → has_no_loss plan ≡ true → IsOfItem plan e → IsSome (script_of plan e.entry.client e.entry.seq)
+entry_is_item's plan e none at =
     let found = item_there plan e.entry.client e.entry.seq at.0 at.1 in
-    subst (λ (o : Option PlainItem). IsSome (option_and_then script_in o)) (sym found.1) (scripted found.0 (cold_item plan e.entry.client e.entry.seq found.0 cold found.1))
+    subst (λ (o : Option PlainItem). IsSome (option_and_then script_in o)) (sym found.1) (script_there plan e.entry.client e.entry.seq found.0 none found.1)
+
+-- a transaction of that kind has all its tuples in the switch
+all_hot : (rows : List LayoutRow) (ops : List Op) → kind_of rows ops ≡ Hot → list_all (λ op. is_hot rows op.tuple) ops ≡ true
+all_hot rows ops = by (list_all (λ op. is_hot rows op.tuple) ops) (list_any (λ op. is_hot rows op.tuple) ops)
   where
-    scripted : (item : PlainItem) → is_cold_item plan.layout item ≡ true → IsSome (script_in item)
-    scripted (Run ops) e = refl
-    scripted Lose e = cc
+    by : (a b : Bool) → (if a then Hot else (if b then Warm else Cold)) ≡ Hot → a ≡ true
+    by true b e = refl
+    by false true e = cc
+    by false false e = cc
 
 pub run_is_serial : (plan : Plan) (s : State) → IsReached plan s → IsFinished s → IsSerial plan s
-run_is_serial plan s reached finished = record { history = legal_history plan s reached; values = serial_values plan s reached finished }
+run_is_serial plan s reached finished = record { history = legal_now plan s reached.sound (holds plan s reached); values = values_now plan s reached.sound (holds plan s reached) finished.clients }
 
-pub run_is_once_each : (plan : Plan) (trace : List Actor) (s : State) → state_of plan trace ≡ Some s → has_cold_items plan ≡ true → IsReached plan s → IsFinished s → IsOnceEach plan trace s
-run_is_once_each plan trace s run cold reached finished = record {
+pub run_is_once_each : (plan : Plan) (trace : List Actor) (s : State) → state_of plan trace ≡ Some s → has_no_loss plan ≡ true → IsReached plan s → IsFinished s → IsOnceEach plan trace s
+run_is_once_each plan trace s run none reached finished = record {
   finished = finished;
   ended = ended plan s reached finished;
   lines =
       map-flat_map (client_told plan s) (numbers_below (length plan.clients))
       ∙ alike_from (λ c. map name_of (client_told plan s c)) (λ c. map (λ seq. (c, seq)) (range_with_len 1 (length (items_of plan c)))) 0 (length plan.clients) (λ c _ _. client_lines c);
-  entries = each_entry s.history (λ e at. entry_is_item's plan e cold at) (are_placed plan s reached).entries;
-  in_order = (items_in_order plan s reached).ascending;
+  entries = each_entry s.history (λ e at. entry_is_item's plan e none at) (are_of_items plan s reached);
+  in_order = (items_in_order plan (holds plan) s reached).ascending;
   rising = rising_stamps plan s reached;
-  stamps = stamps_above plan s (record { sound = reached.sound; cold = cold; trace = trace; run = run });
+  stamps = stamps_above plan s (record { sound = reached.sound; trace = trace; run = run });
 }
   where
     client_lines : (c : ℕ) → map name_of (client_told plan s c) ≡ map (λ seq. (c, seq)) (range_with_len 1 (length (items_of plan c)))
@@ -210,12 +219,14 @@ pub aborts_have_causes : (plan : Plan) (trace : List Actor) (s : State) → stat
 aborts_have_causes plan trace s run reached finished = record {
   refusals = refusals_of_run plan trace s run;
   tries = λ c seq ops is aborted. (ended plan s reached finished c seq (there (item_of plan c seq) ops is)).tries aborted;
-  hot = λ c seq ops is hot. absurd (clash (sym hot ∙ cold_from_items plan reached.cold c seq ops is));
+  hot = λ c seq ops is hot aborted. absurd (omega (
+    arith,
+    (ended plan s reached finished c seq (there (item_of plan c seq) ops is)).tries aborted,
+    reached.sound.limits.tries.0,
+    hot_are_not_refused plan trace s run c seq (subst (λ (o : Option (List Op)). list_all (λ op. is_hot plan.layout op.tuple) (unwrap_or o []) ≡ true) (sym is) (all_hot plan.layout ops hot)),
+  ));
 }
   where
     there : (o : Option PlainItem) (ops : List Op) → option_and_then script_in o ≡ Some ops → IsSome o
     there (Some item) ops is = refl
     there None ops is = cc
-
-    clash : Hot ≡ Cold → ⊥
-    clash e = cc

@@ -4,7 +4,7 @@ use Rattle.catalogue.specs.Plan.{Plan}
 use Rattle.port_io.specs.ReadAll.{TakesAll, TakesBeyond}
 use Rattle.session_reader.specs.SessionOf.{session_of}
 use Rattle.session_reader.specs.declared.fault.SessionFault.{SessionFault}
-use Rattle.core_model.specs.Built.{has_cold_items}
+use Rattle.fabric_model.specs.Driven.{has_no_loss}
 use Rattle.p4db_top.specs.declared.note.Note.{Note}
 use Rattle.p4db_top.specs.declared.note.Note.TheVariants.{Done, Usage, ReadFault, InputTooLong, WriteFault, Session, NotBuilt, NoMemory}
 use Rattle.p4db_top.specs.Headline.{most_input, Explains, Refuses, IsNotBuilt}
@@ -23,14 +23,14 @@ not_refused bytes session rest fault is r =
     let e : session_of bytes ≡ Err fault = subst (λ (b : List ℕ). session_of b ≡ Err fault) (taken_all most_input bytes r.bytes rest r.taken) r.is in
     cc (is, e)
 
-not_another : (bytes : List ℕ) (session : Plan) (rest : Option (List ℕ)) → session_of bytes ≡ Ok session → has_cold_items session ≡ true → IsNotBuilt (Some bytes) rest → ⊥
+not_another : (bytes : List ℕ) (session : Plan) (rest : Option (List ℕ)) → session_of bytes ≡ Ok session → has_no_loss session ≡ true → IsNotBuilt (Some bytes) rest → ⊥
 not_another bytes session rest is built r =
     let e : session_of bytes ≡ Ok r.session = subst (λ (b : List ℕ). session_of b ≡ Ok r.session) (taken_all most_input bytes r.read.bytes rest r.read.taken) r.read.is in
     let same : r.session ≡ session = cc (is, e) in
-    let not_built = ap has_cold_items (sym same) ∙ r.not_built in
+    let not_built = ap has_no_loss (sym same) ∙ r.loses in
     cc (built, not_built)
 
-pub complete_from : (note : Note) (rest before after : Option (List ℕ)) (bytes : List ℕ) (session : Plan) → Explains note (Some bytes) rest before after → length bytes ≤ most_input → session_of bytes ≡ Ok session → has_cold_items session ≡ true
+pub complete_from : (note : Note) (rest before after : Option (List ℕ)) (bytes : List ℕ) (session : Plan) → Explains note (Some bytes) rest before after → length bytes ≤ most_input → session_of bytes ≡ Ok session → has_no_loss session ≡ true
     → (note ≡ ReadFault → ⊥) → (note ≡ WriteFault → ⊥) → (note ≡ Done) ⊎ (note ≡ NoMemory)
 complete_from Done rest before after bytes session e few is built read write = inl refl
 complete_from NoMemory rest before after bytes session e few is built read write = inr refl

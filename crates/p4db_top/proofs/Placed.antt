@@ -1,31 +1,40 @@
 -- Where the clients of a run stand among their items, and of which items the entries are.
-use Rattle.std.proofs.Common.{◌≡◌, ℕ, zero, suc, ◌+◌, ◌-◌, ◌<◌, ◌≤◌, ◌==◌, nat_le, Bool, true, false, List, [], ◌∷◌, length, take, set, get_or, inl, inr, refl, sym, ap, subst, ◌∙◌, arith, if◌then◌else◌}
+use Rattle.std.proofs.Common.{◌≡◌, ℕ, zero, suc, ◌+◌, ◌-◌, ◌<◌, ◌≤◌, ◌==◌, nat_le, Bool, true, false, List, [], ◌∷◌, length, take, get_or, inl, inr, refl, sym, ap, subst, ◌∙◌, arith, if◌then◌else◌}
 use Rattle.std.specs.List.{AllByRecursion}
 use Rattle.std.proofs.lemmas.Bool.Decides.{nat_tests}
+use Rattle.txn_model.specs.declared.pairs.Pair.{Pair}
 use Rattle.txn_model.specs.declared.stamp.Seen.{Seen}
-use Rattle.history_model.specs.History.{HistoryEntry}
+use Rattle.txn_model.specs.declared.stamp.Stamp.{Stamp}
+use Rattle.history_model.specs.History.{HistoryEntry, History}
+use Rattle.history_model.specs.InOrder.{seqs_of}
 use Rattle.catalogue.specs.Plan.{Plan, PlainItem, items_of}
-use Rattle.core_model.specs.declared.phase.Phase.TheVariants.{Ready, Finished}
+use Rattle.catalogue.specs.declared.actor.Actor.{Actor}
+use Rattle.switch_model.specs.Switch.{Desk, desk_at, next_number}
+use Rattle.core_model.specs.declared.phase.Phase.TheVariants.{Ready, Waiting, Installing, Finished}
 use Rattle.core_model.specs.Facts.{steps_now}
-use Rattle.core_model.specs.Laws.{IsReached}
-use Rattle.core_model.specs.Run.{opening, first_clients, state_of}
-use Rattle.core_model.specs.State.{ClientState, State, at_item, client_at, zero_stamp}
-use Rattle.core_model.specs.Step.{aborting, try_ended, next_item, granted, refused, released, decided, installed, installed_one}
-use Rattle.core_model.proofs.Runs.{by_moves}
-use Rattle.core_model.proofs.Decide.{all-with_entry}
+use Rattle.core_model.specs.Run.{first_clients}
+use Rattle.core_model.specs.State.{ClientState, at_item, zero_stamp}
+use Rattle.core_model.specs.Step.{aborting, try_ended, next_item, installed_one}
 use Rattle.core_model.proofs.Fewer.{same_or_not}
-use Rattle.core_model.proofs.MoveKinds.{Move, Grants, Refuses, Releases, Decides, Installs, move_of}
-use Rattle.core_model.proofs.Moves.{moved_client, others_stay}
-use Rattle.core_model.proofs.Stuck.{ArePresent, asking_open, present_moved, present_at_opening}
+use Rattle.core_model.proofs.StepsOf.{all_append}
+use Rattle.fabric_model.specs.Intents.{intent_now, with_intent, with_outcome}
+use Rattle.fabric_model.specs.Laws.{IsReached, IsPast}
+use Rattle.fabric_model.specs.Run.{opening}
+use Rattle.fabric_model.specs.State.{State, client_at, log_at}
+use Rattle.fabric_model.specs.Step.{granted, refused, released, decided, logged, posted, taken, installed, replied}
+use Rattle.fabric_model.proofs.FewRecords.{seq_within}
+use Rattle.fabric_model.proofs.FromCore.{seqs_of-own, seqs_of-other}
+use Rattle.fabric_model.proofs.InOrder.{desk_in, Goes, Stays, Passes, Adds, goes_of, items_in_order}
+use Rattle.fabric_model.proofs.Legal.{holds}
+use Rattle.fabric_model.proofs.MoveKinds.{Move, Grants, Refuses, Releases, Decides, Logs, Posts, Takes, Installs, Moved, ByClient, AtPort, AtStage, move_of}
+use Rattle.fabric_model.proofs.PerClient.{EachClient, each_moved, each_still, logs_stay, logs_at_port, logs_at_stage}
+use Rattle.fabric_model.proofs.Present.{reply_to, stamp_of, clients_at_port, clients_at_stage, present_of}
+use Rattle.fabric_model.proofs.Runs.{of_reached}
 
 -- a client is at an item from 1 on, and behind them all where it has finished
 pub record IsPlaced (plan : Plan) (c : ℕ) (x : ClientState) : Type 0 where
   pub one : 1 ≤ x.seq
   pub behind : x.phase ≡ Finished → length (items_of plan c) < x.seq
-
--- a client in any other phase
-elsewhere : (plan : Plan) (c : ℕ) (x : ClientState) → 1 ≤ x.seq → (x.phase ≡ Finished → ⊥) → IsPlaced plan c x
-elsewhere plan c x one n = record { one = one; behind = λ e. absurd (n e) }
 
 placed_at : (plan : Plan) (c seq : ℕ) (x : ClientState) → 1 ≤ seq → IsPlaced plan c (at_item (length (items_of plan c)) seq x.last)
 placed_at plan c seq x one = record { one = one; behind = by (nat_le seq (length (items_of plan c))) refl }
@@ -55,82 +64,109 @@ placed_installed plan c x all here = by (x.installed + 1 == all)
     by true = placed_at plan c (x.seq + 1) x (omega arith)
     by false = record { one = here.one; behind = here.behind }
 
+placed_replied : (plan : Plan) (c : ℕ) (x : ClientState) (stamp : Stamp) (reply : List Pair) → 1 ≤ x.seq → IsPlaced plan c (replied plan c x stamp reply)
+placed_replied plan c x stamp reply one = by (length x.noted == 0)
+  where
+    by : (b : Bool) → IsPlaced plan c (if b then next_item plan c (record x { phase = Installing; last = stamp; reply = reply }) else record x { phase = Installing; last = stamp; reply = reply })
+    by true = placed_at plan c (x.seq + 1) (record x { phase = Installing; last = stamp; reply = reply }) (omega arith)
+    by false = record { one = one; behind = λ e. cc }
+
+abbrev AllPlaced : Plan → State → Type 0
+AllPlaced plan s = EachClient (λ c x log. IsPlaced plan c x) s
+
+module _ (plan : Plan) (s : State) (c : ℕ) (lt : c < length s.clients) (as_many : length s.logs ≡ length s.clients) (all : AllPlaced plan s) where
+  abbrev x : ClientState
+  x = client_at s c
+
+  placed_moved : (after : State) → Move plan s c after → AllPlaced plan after
+  unfolding granted refused released decided logged posted taken installed
+  placed_moved after (Grants op asks next free is) =
+      each_moved (λ d y l. IsPlaced plan d y) s after c _ (log_at s c) lt as_many (ap (λ (z : State). z.clients) is) (inl (ap (λ (z : State). z.logs) is, refl)) (λ d n. all d) (record { one = (all c).one; behind = λ e. cc })
+  placed_moved after (Refuses op by asks next held is) =
+      each_moved (λ d y l. IsPlaced plan d y) s after c (aborting plan c x x.noted) (log_at s c) lt as_many (ap (λ (z : State). z.clients) is) (inl (ap (λ (z : State). z.logs) is, refl)) (λ d n. all d) (placed_aborting plan c x x.noted (all c).one)
+  placed_moved after (Releases phase is) =
+      let front = take (length x.noted - 1) x.noted in
+      each_moved (λ d y l. IsPlaced plan d y) s after c (aborting plan c x front) (log_at s c) lt as_many (ap (λ (z : State). z.clients) is) (inl (ap (λ (z : State). z.logs) is, refl)) (λ d n. all d) (placed_aborting plan c x front (all c).one)
+  placed_moved after (Decides asks next cold some is) =
+      each_moved (λ d y l. IsPlaced plan d y) s after c _ (log_at s c) lt as_many (ap (λ (z : State). z.clients) is) (inl (ap (λ (z : State). z.logs) is, refl)) (λ d n. all d) (record { one = (all c).one; behind = λ e. cc })
+  placed_moved after (Logs asks next hot is) =
+      each_moved (λ d y l. IsPlaced plan d y) s after c _ (with_intent (intent_now plan c x) (log_at s c)) lt as_many (ap (λ (z : State). z.clients) is) (inr (ap (λ (z : State). z.logs) is)) (λ d n. all d) (record { one = (all c).one; behind = λ e. cc })
+  placed_moved after (Posts now next phase up to is) =
+      each_moved (λ d y l. IsPlaced plan d y) s after c _ (log_at s c) lt as_many (ap (λ (z : State). z.clients) is) (inl (ap (λ (z : State). z.logs) is, refl)) (λ d n. all d) (record { one = (all c).one; behind = λ e. cc })
+  placed_moved after (Takes now next answer phase up has to is) =
+      each_moved (λ d y l. IsPlaced plan d y) s after c (replied plan c x (stamp_of answer) (reply_to plan c x answer)) (with_outcome (record { seq = x.seq; number = answer.number; pairs = answer.pairs }) (log_at s c)) lt as_many
+      (ap (λ (z : State). z.clients) is) (inr (ap (λ (z : State). z.logs) is)) (λ d n. all d) (placed_replied plan c x (stamp_of answer) (reply_to plan c x answer) (all c).one)
+  placed_moved after (Installs p phase at is) =
+      each_moved (λ d y l. IsPlaced plan d y) s after c (installed_one plan c x (length (steps_now plan c x))) (log_at s c) lt as_many (ap (λ (z : State). z.clients) is) (inl (ap (λ (z : State). z.logs) is, refl)) (λ d n. all d)
+      (placed_installed plan c x (length (steps_now plan c x)) (all c))
+
+placed_step : (plan : Plan) (s after : State) (actor : Actor) → IsReached plan s → AllPlaced plan s → Moved plan s after actor → AllPlaced plan after
+placed_step plan s after actor reached all (ByClient c within move) = placed_moved plan s c within (logs_stay plan s reached) all after move
+placed_step plan s after actor reached all (AtPort c now next up to is) =
+    each_still (λ d x log. IsPlaced plan d x) s after (ap (λ (z : State). z.clients) is ∙ clients_at_port s c (desk_at now c) (next_number now) next) (ap (λ (z : State). z.logs) is ∙ logs_at_port s c (desk_at now c) (next_number now) next) all
+placed_step plan s after actor reached all (AtStage k now next up to is) =
+    each_still (λ d x log. IsPlaced plan d x) s after (ap (λ (z : State). z.clients) is ∙ clients_at_stage s next) (ap (λ (z : State). z.logs) is ∙ logs_at_stage s next) all
+
+placed_at_opening : (plan : Plan) → AllPlaced plan (opening plan)
+unfolding opening
+placed_at_opening plan c = first plan.clients c refl
+  where
+    -- the client's items are those at its place
+    first : (lists : List (List PlainItem)) (d : ℕ) → get_or lists d [] ≡ items_of plan c → IsPlaced plan c (get_or (first_clients lists) d (at_item 0 1 zero_stamp))
+    first [] d is = record { one = omega arith; behind = λ _. omega (arith, ap length is) }
+    first (items ∷ lists) zero is = subst (λ (l : List PlainItem). IsPlaced plan c (at_item (length l) 1 zero_stamp)) (sym is) (placed_at plan c 1 (at_item 0 1 zero_stamp) (omega arith))
+    first (items ∷ lists) (suc d) is = first lists d is
+
+pub are_placed : (plan : Plan) (s : State) → IsReached plan s → (c : ℕ) → IsPlaced plan c (client_at s c)
+are_placed plan s reached =
+    of_reached plan (AllPlaced plan) (placed_at_opening plan) (λ z next actor r all is. placed_step plan z next actor r all (move_of plan z actor next is)) s reached
+
+-- ---- entries
+
+AreFromOne : State → Type 0
+AreFromOne s = (c : ℕ) → AllByRecursion (λ q. 1 ≤ q) (seqs_of c s.history)
+
+from_one : (x : ClientState) (desk : Desk) (y : ClientState) (desk_new : Desk) (l l_new : List ℕ) → 1 ≤ x.seq → Goes x desk y desk_new l l_new → AllByRecursion (λ q. 1 ≤ q) l → AllByRecursion (λ q. 1 ≤ q) l_new
+from_one x desk y desk_new l l_new one (Stays is same on) all = subst (AllByRecursion (λ q. 1 ≤ q)) (sym is) all
+from_one x desk y desk_new l l_new one (Passes is later) all = subst (AllByRecursion (λ q. 1 ≤ q)) (sym is) all
+from_one x desk y desk_new l l_new one (Adds is none same its) all = subst (AllByRecursion (λ q. 1 ≤ q)) (sym is) (all_append (λ q. 1 ≤ q) l (x.seq ∷ []) all (one, tt))
+
+none_at_first : (plan : Plan) → AreFromOne (opening plan)
+unfolding AreFromOne opening
+none_at_first plan c = tt
+
+are_from_one : (plan : Plan) (s : State) → IsReached plan s → (c : ℕ) → AllByRecursion (λ q. 1 ≤ q) (seqs_of c s.history)
+unfolding AreFromOne
+are_from_one plan s reached =
+    of_reached plan AreFromOne (none_at_first plan) (λ z next actor r all is c.
+    from_one (client_at z c) (desk_in z.switch c) (client_at next c) (desk_in next.switch c) (seqs_of c z.history) (seqs_of c next.history) (are_placed plan z r c).one (goes_of plan z (holds plan z r) next actor (move_of plan z actor next is) c) (all c)) s reached
+
 -- the entry is that of an item
 abbrev pub IsOfItem : Plan → HistoryEntry → Type 0
 IsOfItem plan e = (1 ≤ e.entry.seq) × (e.entry.seq ≤ length (items_of plan e.entry.client))
 
--- all clients are placed, and all entries are of items
-pub record ArePlaced (plan : Plan) (s : State) : Type 0 where
-  pub present : ArePresent plan s
-  pub each : (c : ℕ) → IsPlaced plan c (client_at s c)
-  pub entries : AllByRecursion (IsOfItem plan) s.history
-
--- what a move makes of its client, and of the history
-record Becomes (plan : Plan) (s : State) (c : ℕ) (after : State) : Type 0 where
-  pub y : ClientState
-  pub clients : after.clients ≡ set s.clients c y
-  pub placed : IsPlaced plan c y
-  pub entries : AllByRecursion (IsOfItem plan) after.history
-
-becomes : (plan : Plan) (s : State) (c : ℕ) (after : State) → ArePlaced plan s → Move plan s c after → Becomes plan s c after
-unfolding granted refused released decided installed
-becomes plan s c after here (Grants op asks next free is) = record {
-  y = _;
-  clients = ap (λ (z : State). z.clients) is;
-  placed = record { one = (here.each c).one; behind = λ e. cc };
-  entries = subst (AllByRecursion (IsOfItem plan)) (sym (ap (λ (z : State). z.history) is)) here.entries;
-}
-becomes plan s c after here (Refuses op by asks next held is) = record {
-  y = _;
-  clients = ap (λ (z : State). z.clients) is;
-  placed = placed_aborting plan c (client_at s c) (client_at s c).noted (here.each c).one;
-  entries = subst (AllByRecursion (IsOfItem plan)) (sym (ap (λ (z : State). z.history) is)) here.entries;
-}
-becomes plan s c after here (Releases phase is) = record {
-  y = _;
-  clients = ap (λ (z : State). z.clients) is;
-  placed = placed_aborting plan c (client_at s c) (take (length (client_at s c).noted - 1) (client_at s c).noted) (here.each c).one;
-  entries = subst (AllByRecursion (IsOfItem plan)) (sym (ap (λ (z : State). z.history) is)) here.entries;
-}
-becomes plan s c after here (Decides asks next some is) =
-    let at = here.present c (asking_open (client_at s c) asks) in
-    record {
-      y = _;
-      clients = ap (λ (z : State). z.clients) is;
-      placed = record { one = at.0; behind = λ e. cc };
-      entries = subst (AllByRecursion (IsOfItem plan)) (sym (ap (λ (z : State). z.history) is)) (all-with_entry (IsOfItem plan) _ s.history here.entries (at.0, at.1));
-    }
-becomes plan s c after here (Installs p phase at is) = record {
-  y = _;
-  clients = ap (λ (z : State). z.clients) is;
-  placed = placed_installed plan c (client_at s c) (length (steps_now plan c (client_at s c))) (here.each c);
-  entries = subst (AllByRecursion (IsOfItem plan)) (sym (ap (λ (z : State). z.history) is)) here.entries;
-}
-
-placed_moved : (plan : Plan) (s : State) (c : ℕ) (after : State) → c < length s.clients → ArePlaced plan s → Move plan s c after → ArePlaced plan after
-placed_moved plan s c after lt here move = record { present = present_moved plan s c after lt here.present move; each = each; entries = b.entries }
+-- what holds of each client's entries holds of all
+of_all : (P : ℕ → ℕ → Type 0) (h : History) → ((c : ℕ) → AllByRecursion (P c) (seqs_of c h)) → AllByRecursion (λ e. P e.entry.client e.entry.seq) h
+of_all P [] all = tt
+of_all P (e ∷ h) all = ((subst (AllByRecursion (P e.entry.client)) (seqs_of-own e.entry.client e h refl) (all e.entry.client)).0, of_all P h rest)
   where
-    b : Becomes plan s c after
-    b = becomes plan s c after here move
-
-    each : (d : ℕ) → IsPlaced plan d (client_at after d)
-    each d = elim (same_or_not d c) [
-      | inl e ↦ subst (λ (n : ℕ). IsPlaced plan n (client_at after n)) (sym e) (subst (λ (z : ClientState). IsPlaced plan c z) (sym (ap (λ (l : List ClientState). get_or l c (at_item 0 1 zero_stamp)) b.clients ∙ moved_client s.clients c b.y lt)) b.placed)
-      | inr n ↦ subst (λ (z : ClientState). IsPlaced plan d z) (sym (ap (λ (l : List ClientState). get_or l d (at_item 0 1 zero_stamp)) b.clients ∙ others_stay s.clients c b.y d n)) (here.each d)
+    rest : (c : ℕ) → AllByRecursion (P c) (seqs_of c h)
+    rest c = elim (same_or_not e.entry.client c) [
+      | inl is ↦ (subst (AllByRecursion (P c)) (seqs_of-own c e h is) (all c)).1
+      | inr other ↦ subst (AllByRecursion (P c)) (seqs_of-other c e h other) (all c)
     ]
 
-placed_at_opening : (plan : Plan) → 1 ≤ plan.tries → ArePlaced plan (opening plan)
-unfolding opening
-placed_at_opening plan tries = record { present = present_at_opening plan tries; each = λ c. first c plan.clients c refl; entries = tt }
-  where
-    -- the client's items are those at its place
-    first : (c : ℕ) (lists : List (List PlainItem)) (d : ℕ) → get_or lists d [] ≡ items_of plan c → IsPlaced plan c (get_or (first_clients lists) d (at_item 0 1 zero_stamp))
-    first c [] d is = record { one = omega arith; behind = λ _. omega (arith, ap length is) }
-    first c (items ∷ lists) zero is = subst (λ (l : List PlainItem). IsPlaced plan c (at_item (length l) 1 zero_stamp)) (sym is) (placed_at plan c 1 (at_item 0 1 zero_stamp) (omega arith))
-    first c (items ∷ lists) (suc d) is = first c lists d is
+within_items : (plan : Plan) (s : State) → IsReached plan s → (c q : ℕ) → IsPast (client_at s c) q → q ≤ length (items_of plan c)
+within_items plan s reached c q (inl before) = omega (arith, before, seq_within plan s c reached)
+within_items plan s reached c q (inr (is, inl waits)) = omega (arith, is, (present_of plan s reached c (λ f. let clash : Waiting ≡ Finished = sym waits ∙ f in cc)).1)
+within_items plan s reached c q (inr (is, inr installs)) = omega (arith, is, (present_of plan s reached c (λ f. let clash : Installing ≡ Finished = sym installs ∙ f in cc)).1)
 
-pub are_placed : (plan : Plan) (s : State) → IsReached plan s → ArePlaced plan s
-unfolding state_of
-are_placed plan s reached =
-    by_moves plan (ArePlaced plan) (λ z next actor here is. let moved = move_of plan z actor next is in placed_moved plan z moved.client next moved.within here moved.move)
-    reached.trace (opening plan) s (placed_at_opening plan reached.sound.limits.tries.0) reached.run
+both : (P Q R : ℕ → Type 0) → ((q : ℕ) → P q → Q q → R q) → (l : List ℕ) → AllByRecursion P l → AllByRecursion Q l → AllByRecursion R l
+both P Q R f [] p q = tt
+both P Q R f (n ∷ l) p q = (f n p.0 q.0, both P Q R f l p.1 q.1)
+
+pub are_of_items : (plan : Plan) (s : State) → IsReached plan s → AllByRecursion (IsOfItem plan) s.history
+are_of_items plan s reached =
+    of_all (λ c q. (1 ≤ q) × (q ≤ length (items_of plan c))) s.history (λ c.
+    both (λ q. 1 ≤ q) (IsPast (client_at s c)) (λ q. (1 ≤ q) × (q ≤ length (items_of plan c))) (λ q one past. (one, within_items plan s reached c q past)) (seqs_of c s.history)
+    (are_from_one plan s reached c) ((items_in_order plan (holds plan) s reached).past c))

@@ -3,10 +3,10 @@ use Rattle.std.specs.Prelude.{◌≡◌, ◌≢◌, ◌⊎◌, ℕ, true, false,
 use Rattle.std.specs.Io.KnownBytes.{Appends}
 use Rattle.catalogue.specs.Plan.{Plan}
 use Rattle.catalogue.specs.declared.actor.Actor.{Actor}
-use Rattle.core_model.specs.Built.{has_cold_items}
-use Rattle.core_model.specs.Rota.{driven}
-use Rattle.core_model.specs.Run.{state_of}
-use Rattle.core_model.specs.State.{State}
+use Rattle.fabric_model.specs.Driven.{has_no_loss}
+use Rattle.fabric_model.specs.Rota.{driven}
+use Rattle.fabric_model.specs.Run.{state_of}
+use Rattle.fabric_model.specs.State.{State}
 use Rattle.port_io.specs.ReadAll.{TakesAll, TakesWithin, TakesBeyond}
 use Rattle.port_io.specs.WriteAll.{AppendsFront}
 use Rattle.report_text.specs.ReportText.{report}
@@ -32,10 +32,10 @@ pub record IsRead (left rest : Option (List ℕ)) (session : Plan) : Type 0 wher
   pub taken : TakesAll most_input left rest bytes
   pub is : session_of bytes ≡ Ok session
 
--- a session was read, and it is one that is run: all its items are transactions on hosts
+-- a session was read, and it is one that is run: none of its items loses the switch
 pub record Reads (left rest : Option (List ℕ)) (session : Plan) : Type 0 where
   pub read : IsRead left rest session
-  pub built : has_cold_items session ≡ true
+  pub losses : has_no_loss session ≡ true
 
 -- What stands behind status 0.
 pub record Headline (left rest before after : Option (List ℕ)) : Type 0 where
@@ -45,8 +45,8 @@ pub record Headline (left rest before after : Option (List ℕ)) : Type 0 where
   -- all that was left in the source is the text of this session
   pub reads : Reads left rest session
   -- those moved that can when the schedule's actors are taken in order, and then the rota again and again
-  pub driven : trace ≡ driven session
-  -- these moves of the core make this state of the session's opening
+  pub driven : trace ≡ driven session session.schedule
+  -- these moves make this state of the session's opening
   pub run : state_of session trace ≡ Some state
   -- exactly the report of that was written
   pub printed : Appends before after (report (run_report session state trace))
@@ -65,11 +65,11 @@ pub record Refuses (left rest : Option (List ℕ)) (fault : SessionFault) : Type
   -- it is a fault of the text
   pub told : fault ≢ no_memory
 
--- a session was read, and it is one that isn't run yet
+-- a session was read, and it is one that isn't run yet: one of its items loses the switch
 pub record IsNotBuilt (left rest : Option (List ℕ)) : Type 0 where
   pub session : Plan
   pub read : IsRead left rest session
-  pub not_built : has_cold_items session ≡ false
+  pub loses : has_no_loss session ≡ false
 
 -- A session was read and run, and a front of its output was written: what stands behind status 4.
 pub record WritesFront (left rest before after : Option (List ℕ)) : Type 0 where
@@ -78,7 +78,7 @@ pub record WritesFront (left rest before after : Option (List ℕ)) : Type 0 whe
   pub state : State
   -- the first three parts are those of the headline
   pub reads : Reads left rest session
-  pub driven : trace ≡ driven session
+  pub driven : trace ≡ driven session session.schedule
   pub run : state_of session trace ≡ Some state
   -- a front of the report of that was written
   pub printed : AppendsFront before after (report (run_report session state trace))

@@ -6,18 +6,21 @@ use Rattle.catalogue.specs.Plan.{Plan, items_of, item_of, script_of, kind_of}
 use Rattle.catalogue.specs.declared.actor.Actor.{Actor}
 use Rattle.catalogue.specs.declared.kind.Kind.TheVariants.{Hot}
 use Rattle.history_model.specs.InOrder.{seqs_of}
-use Rattle.core_model.specs.Asking.{IsTrue}
-use Rattle.core_model.specs.Ends.{item_end, refused_times, IsEnded}
-use Rattle.core_model.specs.declared.item_end.ItemEnd.TheVariants.{Aborted}
-use Rattle.core_model.specs.Fixed.{HasStampsAbove}
-use Rattle.core_model.specs.Laws.{HasLegalHistory, HasSerialValues, HasRisingStamps, IsFinished, IsAscending}
+use Rattle.core_model.specs.Ends.{refused_times}
+use Rattle.core_model.specs.Laws.{IsAscending}
 use Rattle.core_model.specs.Rota.{numbers_below}
-use Rattle.core_model.specs.State.{State}
+use Rattle.core_model.specs.declared.item_end.ItemEnd.TheVariants.{Aborted}
+use Rattle.fabric_model.specs.Asking.{IsTrue}
+use Rattle.fabric_model.specs.Driven.{IsFinished}
+use Rattle.fabric_model.specs.Ends.{item_end, IsEnded}
+use Rattle.fabric_model.specs.Fixed.{HasStampsAbove}
+use Rattle.fabric_model.specs.Laws.{HasLegalHistory, HasSerialValues, HasRisingStamps}
+use Rattle.fabric_model.specs.State.{State}
 use Rattle.report_text.specs.Report.{EndedItem}
 use Rattle.report_text.specs.RunReport.{items_told}
 
--- The history is in stamp order and answered; running its scripts one after another in that order gives exactly its replies,
--- and leaves exactly the final values.
+-- The history is in stamp order and answered, whether its transactions ran in the switch, on hosts or on both; running its
+-- scripts one after another in that order gives exactly its replies, and leaves exactly the final values.
 pub record IsSerial (session : Plan) (s : State) : Type 0 where
   pub history : HasLegalHistory session s
   pub values : HasSerialValues session s
@@ -31,9 +34,9 @@ name_of item = (item.client, item.seq)
 
 -- Each item of the session has ended, in one way, once.
 pub record IsOnceEach (session : Plan) (trace : List Actor) (s : State) : Type 0 where
-  -- no client has anything left to do
+  -- no client has anything left to do, and the switch is up
   pub finished : IsFinished s
-  -- each item has an end, and if it was aborted, each of its tries was refused
+  -- each item has an end, and if it was aborted, each of its tries was refused, and it has no entry
   pub ended : (client seq : ℕ) → IsSome (item_of session client seq) → IsEnded session s client seq
   -- the report has one line for each item, in order
   pub lines : map name_of (items_told session s) ≡ item_names session

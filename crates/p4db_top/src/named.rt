@@ -4,14 +4,13 @@ ghost use Rattle.std.specs.Prelude.{◌≡◌};
 ghost use Rattle.port_io.specs.Cause.{HasCause};
 ghost use Rattle.catalogue.specs.PlanOf.{plan_of};
 ghost use Rattle.catalogue.specs.Sound.{IsSound};
-ghost use Rattle.core_model.specs.Laws.{IsFinished};
-ghost use Rattle.core_model.specs.Rota.{driven};
+ghost use Rattle.fabric_model.specs.Driven.{IsFinished};
 ghost use Rattle.fabric_core.specs.Running.{state_in};
-ghost use Rattle.p4db_top.specs.Ran.{Ran};
+ghost use Rattle.p4db_top.specs.Ran.{moves_of, Ran};
 
 use crate::note::Note;
 use catalogue::Session;
-use fabric_core::{BeginFault, End, RunName, World, has_cold_items};
+use fabric_core::{BeginFault, End, RunName, World, has_no_loss};
 use port_io::{LogRack, Sink, SinkFault};
 use report_text::write_report;
 use std::alloc::Global;
@@ -31,7 +30,7 @@ pub(crate) fn run_named<L: LogRack, K: Sink, N: RunName>(
     ensures cause { HasCause (K.faults sink.old) (K.faults sink.new) (result.0 ≡ Note.WriteFault) }
     ensures rack { result.1 ≡ rack }
 {
-    if !has_cold_items(&session) {
+    if !has_no_loss(&session) {
         return (Note::NotBuilt, rack);
     }
 
@@ -50,7 +49,7 @@ pub(crate) fn run_named<L: LogRack, K: Sink, N: RunName>(
 
 /// Prints the report of a world that has finished its driven run.
 fn print<L: LogRack, K: Sink, N: RunName>(alloc: Global, world: &World<L, N>, sink: &mut K) -> Note
-    requires driven { world.now.trace ≡ driven world.now.plan }
+    requires driven { world.now.trace ≡ moves_of world.now.plan }
     requires finished { IsFinished (state_in world.now) }
     ensures ran { Ran result world.now.plan (K.content sink.old) (K.content sink.new) }
     ensures cause { HasCause (K.faults sink.old) (K.faults sink.new) (result ≡ Note.WriteFault) }

@@ -22,7 +22,7 @@ pub enum Note {
     WriteFault,
     /// The text is that of no session.
     Session(SessionFault),
-    /// The session is one that this program doesn't run yet.
+    /// The session is one that this program doesn't run yet: one of its items loses the switch.
     NotBuilt,
     /// Memory ran out.
     NoMemory,

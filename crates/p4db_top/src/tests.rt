@@ -9,6 +9,13 @@ const SESSION: &str =
 const REPORT: &str =
     "replies 2\nc0 1 cold 0.1 30>35\nc1 1 abort t2 c0 @1\nhistory 1\n0.1 c0 1\ntuples 5\nt0 10\nt1 20\nt2 35\nt3 40\nt4 50\nschedule c0 c1 c0 c0\n";
 
+/// One client is in the switch in two passes, one in one pass, and one is on hosts and in the switch.
+const PACKETS: &str =
+    r#"{"shape":{"stages":2,"arrays":1,"cells":2,"split":1,"hosts":2},"tuples":[[0,10],[1,20],[2,30],[3,40],[4,50]],"layout":[[0,0,0,0],[1,1,0,0],[4,0,0,1]],"tries":2,"clients":[[[["add",0,1,[]],["add",4,0,[["moved",0]]]]],[[["add",1,1,[]]]],[[["read",2],["add",0,0,[["old",0]]],["put",3,1,[["old",1]]]]]],"schedule":"c0 c0 c1 c1 p0 s0 s1 p1"}"#;
+
+const PACKETS_REPORT: &str =
+    "replies 3\nc0 1 hot 1.0 10>11 50>49\nc1 1 hot 2.0 20>21\nc2 1 warm 3.0 30>30 11>41 40>12\nhistory 3\n1.0 c0 1\n2.0 c1 1\n3.0 c2 1\ntuples 5\nt0 41\nt1 21\nt2 30\nt3 12\nt4 49\nschedule c0 c0 c1 c1 p0 s0 s1 p1 c2 s0 c2 p0 s1 s0 c1 c2 s1 c0 c2 p2 s0 s1 c2 c2 c2\n";
+
 const LOSES: &str =
     r#"{"shape":{"stages":1,"arrays":1,"cells":1,"split":0,"hosts":1},"tuples":[],"layout":[],"tries":1,"clients":[["lose"]],"schedule":""}"#;
 
@@ -28,6 +35,7 @@ fn bytes(alloc: Global, text: &str) -> Result<Vec<u8>, AllocError> {
 fn texts_get_these_answers(rt: HostRuntime) -> Result<(), Fail> {
     let cases = [
         (["run"].as_slice(), SESSION, Note::Done, REPORT),
+        (["run"].as_slice(), PACKETS, Note::Done, PACKETS_REPORT),
         (["run"].as_slice(), LOSES, Note::NotBuilt, ""),
         (
             ["run"].as_slice(),

@@ -6,7 +6,7 @@ ghost use Rattle.catalogue.specs.Plan.{Plan};
 ghost use Rattle.catalogue.specs.PlanOf.{plan_of};
 ghost use Rattle.catalogue.specs.Sound.{IsSound};
 ghost use Rattle.session_reader.specs.SessionOf.{session_of};
-ghost use Rattle.core_model.specs.Built.{has_cold_items};
+ghost use Rattle.fabric_model.specs.Driven.{has_no_loss};
 ghost use Rattle.p4db_top.specs.Headline.{most_input, IsRun, IsRead, Headline, StopsReading, Explains};
 ghost use Rattle.p4db_top.specs.Status.{status_of};
 
@@ -113,7 +113,7 @@ pub fn command<S: Source, K: Sink, L: LogRack + Send>(
     // A session within the limit is run, unless a call failed or memory ran out.
     ensures complete { (bytes : List ℕ) (session : Plan) → IsRun words.now → S.left source.old ≡ Some bytes
         → length bytes ≤ most_input → session_of bytes ≡ Ok session
-        → has_cold_items session ≡ true → (Rose (S.faults source.old) (S.faults source.new) → ⊥) → (Rose (K.faults sink.old) (K.faults sink.new) → ⊥)
+        → has_no_loss session ≡ true → (Rose (S.faults source.old) (S.faults source.new) → ⊥) → (Rose (K.faults sink.old) (K.faults sink.new) → ⊥)
         → (result.note ≡ Note.Done) ⊎ (result.note ≡ Note.NoMemory) }
     ensures logs { result.logs ≡ logs }
 {

@@ -1,21 +1,20 @@
 -- What a report tells of items.
 use Rattle.std.proofs.Common.{◌≡◌, ℕ, suc, ◌+◌, nat_lt, Bool, true, false, if◌then◌else◌, List, [], ◌∷◌, ◌++◌, find, is_some, map, zero, take, slice_get, unwrap_or, Option, Some, None, append_assoc, append-nil, length-append, arith, refl, sym, ap, ◌∙◌}
 use Rattle.std.specs.List.{flat_map, range_with_len}
-use Rattle.std.specs.Option.{option_map, option_and_then}
+use Rattle.std.specs.Option.{option_and_then}
 use Rattle.std.proofs.lemmas.Grind.{flat_map-append}
 use Rattle.txn_model.specs.declared.op.Op.{Op}
 use Rattle.txn_model.specs.declared.pairs.Pair.{Pair}
 use Rattle.catalogue.specs.Plan.{Plan, PlainItem, Run, Lose, item_of, kind_of, script_in, script_at}
-use Rattle.catalogue.specs.declared.kind.Kind.{Kind}
 use Rattle.history_model.specs.History.{HistoryEntry, History}
 use Rattle.history_core.specs.Answers.{is_of_item, reply_of}
-use Rattle.core_model.specs.declared.refusal.Refusal.{Refusal}
-use Rattle.core_model.specs.State.{State, client_at}
-use Rattle.core_model.specs.Ends.{where_answered, answered_entry, script_end, end_of, item_end}
+use Rattle.core_model.specs.Ends.{where_answered, answered_entry, script_end}
+use Rattle.fabric_model.specs.Ends.{end_of, item_end}
+use Rattle.fabric_model.specs.State.{State, client_at}
 use Rattle.core_model.specs.declared.item_end.ItemEnd.{ItemEnd}
 use Rattle.core_model.specs.declared.item_end.ItemEnd.TheVariants as ends
 use Rattle.report_text.specs.Lines.{item_line, entry_line}
-use Rattle.report_text.specs.Report.{PlainEnd, Committed, Lost, EndedItem}
+use Rattle.report_text.specs.Report.{PlainEnd, Lost, EndedItem}
 use Rattle.report_text.specs.RunReport.{last_refusal, told_by, reply_to, with_end, item_told}
 use Rattle.report_text.specs.Told.{Tells}
 

@@ -12,9 +12,11 @@ use Rattle.history_model.specs.History.{History}
 use Rattle.core_model.specs.declared.item_end.ItemEnd.{ItemEnd}
 use Rattle.core_model.specs.declared.item_end.ItemEnd.TheVariants as ends
 use Rattle.core_model.specs.declared.refusal.Refusal.{Refusal}
-use Rattle.core_model.specs.Ends.{answered_entry, item_end}
+use Rattle.core_model.specs.Ends.{answered_entry}
 use Rattle.core_model.specs.Rota.{numbers_below}
-use Rattle.core_model.specs.State.{State, seen_at}
+use Rattle.fabric_model.specs.Ends.{item_end}
+use Rattle.fabric_model.specs.Laws.{tuple_now}
+use Rattle.fabric_model.specs.State.{State}
 use Rattle.report_text.specs.Report.{PlainEnd, Committed, Aborted, Lost, EndedItem, Report}
 
 -- the last refusal of a client's item; None where it has none
@@ -57,9 +59,9 @@ client_told plan s client = flat_map (item_told plan s client) (range_with_len 1
 abbrev pub items_told : Plan → State → List EndedItem
 items_told plan s = flat_map (client_told plan s) (numbers_below (length plan.clients))
 
--- each tuple of the session by id, with its value in the state
+-- each tuple of the session by id, with its value in the state: that of its register or of its host
 abbrev pub tuples_told : Plan → State → List (TupleId × ℤ)
-tuples_told plan s = map (λ row. (row.0, (seen_at s.store row.0).value)) (fin.entries plan.tuples)
+tuples_told plan s = map (λ row. (row.0, tuple_now plan s row.0)) (fin.entries plan.tuples)
 
 -- the report of a state that this trace made
 abbrev pub run_report : Plan → State → List Actor → Report

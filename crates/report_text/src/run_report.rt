@@ -2,8 +2,8 @@
 
 ghost use Rattle.std.specs.Prelude.{◌≡◌, Some, IfOk, OnOk, OnErr, IsErrOf, string_bytes};
 ghost use Rattle.std.specs.Io.KnownBytes.{Appends};
-ghost use Rattle.core_model.specs.Laws.{IsFinished};
-ghost use Rattle.core_model.specs.Run.{state_of};
+ghost use Rattle.fabric_model.specs.Driven.{IsFinished};
+ghost use Rattle.fabric_model.specs.Run.{state_of};
 ghost use Rattle.fabric_core.specs.Running.{state_in};
 ghost use Rattle.port_io.specs.Cause.{HasCause};
 ghost use Rattle.port_io.specs.WriteAll.{AppendsFront};

@@ -1,9 +1,28 @@
+ghost use Rattle.std.specs.Prelude.{◌≡◌, true, IfOk};
+ghost use Rattle.catalogue.specs.PlanOf.{plan_of};
+ghost use Rattle.catalogue.specs.Sound.{IsSound};
+ghost use Rattle.fabric_model.specs.Driven.{has_no_loss};
+
 use crate::item::{push_aborted, push_committed, push_lost};
 use crate::line::{push_count, push_entry, push_schedule, push_tuple};
-use catalogue::{Actor, Kind};
+use crate::write_report;
+use catalogue::{Actor, Actors, Clients, Kind, Session};
+use fabric_core::{End, RunName, World};
 use history_model::Entry;
+use port_io::{CleanRack, MemSink, SinkFault};
+use stage_layout::{Layout, Shape};
+use std::alloc::Global;
+use std::marker::Brand;
 use std::test::Fail;
-use txn_model::{Pair, Stamp, TupleId};
+use txn_model::{NoMemory, Pair, Stamp, TupleId, TupleMap};
+
+const SHAPE: Shape = Shape {
+    stages: 1,
+    arrays: 1,
+    cells: 1,
+    split: 0,
+    hosts: 1,
+};
 
 fn pair(was: i64, now: i64) -> Pair {
     Pair { was, now }
@@ -70,5 +89,60 @@ fn other_lines_are_appended(rt: HostRuntime) -> Result<(), Fail> {
          schedule c3 p0 s11 r\n\
          schedule\n"
     );
+    Ok(())
+}
+
+/// A session of no tuples and no clients.
+fn session(alloc: Global) -> Result<Session, NoMemory>
+    ensures sound { IfOk result (λ session. IsSound (plan_of session)) }
+    ensures losses { IfOk result (λ session. has_no_loss (plan_of session) ≡ true) }
+{
+    Ok(Session {
+        shape: SHAPE,
+        tuples: TupleMap::of(alloc, &[])?,
+        layout: Layout::of(alloc, Vec::new(alloc))?,
+        tries: 1,
+        clients: Clients::of(Vec::new(alloc)),
+        schedule: Actors::of(Vec::new(alloc)),
+    })
+}
+
+/// What is answered where the session's report is written, in pieces of 10 bytes at most, to a sink whose
+/// calls with these numbers fail; and the sink. None where memory ran out before.
+fn written<N: RunName>(
+    alloc: Global,
+    session: Session,
+    fails: Vec<u32>,
+) -> Option<(Result<(), SinkFault>, MemSink)>
+    requires sound { IsSound (plan_of session) }
+    requires losses { has_no_loss (plan_of session) ≡ true }
+    requires named { plan_of session ≡ N.session }
+    requires faults { N.faults ≡ 0 }
+    requires kept { N.kept ≡ true }
+{
+    let rack = CleanRack::fresh(alloc);
+    let Ok(mut world) = World::<CleanRack, N>::begin(alloc, session, rack) else {
+        return None;
+    };
+    let End::Finished = world.finish();
+    let mut sink = MemSink::of(alloc, 10, fails);
+    let answer = write_report(alloc, &world, &mut sink);
+    Some((answer, sink))
+}
+
+#[test]
+fn a_failing_sink_is_told_as_a_failure(rt: HostRuntime) -> Result<(), Fail> {
+    let alloc = rt.alloc();
+    let whole = "replies 0\nhistory 0\ntuples 0\nschedule\n";
+    let rows = [
+        (9, Ok(()), whole),
+        (2, Err(SinkFault::Failed), "replies 0\n"),
+    ];
+    for (fails, answer, content) in rows {
+        let got = written::<Brand>(alloc, session(alloc)?, vec![in alloc; fails]?);
+        let (got, sink) = got.expect(&rt, "there is memory");
+        assert_eq!(rt; got, answer);
+        assert_eq!(rt; sink.content(), content.as_bytes());
+    }
     Ok(())
 }

@@ -2,4 +2,4 @@ use Rattle.client_phase.proofs.NextMoves.{actions_are_moves}
 use Rattle.client_phase.proofs.laws.actions_are_moves.Goals as goal
 
 pub returns : goal.returns
-returns c plan s k x = actions_are_moves plan s k x x.phase
+returns c = actions_are_moves

@@ -1,7 +1,7 @@
 use Rattle.std.proofs.Common.{◌≡◌, ◌+◌, drop}
 use Rattle.catalogue.specs.Items.{plain_items}
 use Rattle.catalogue.specs.PlanOf.{plan_of}
-use Rattle.core_model.specs.Bound as bound
+use Rattle.fabric_model.specs.Bound as bound
 use Rattle.fabric_core.proofs.room.items_bound.Given as goal
 
 -- the moves so far and those of the items that are left make the whole

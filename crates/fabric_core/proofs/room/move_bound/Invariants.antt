@@ -1,6 +1,6 @@
 use Rattle.std.proofs.Common.{◌≡◌, ◌+◌, drop}
 use Rattle.catalogue.specs.PlanOf.{plan_of}
-use Rattle.core_model.specs.Bound as bound
+use Rattle.fabric_model.specs.Bound as bound
 use Rattle.fabric_core.proofs.room.move_bound.Given as goal
 
 -- the moves so far and those of the clients that are left make the whole

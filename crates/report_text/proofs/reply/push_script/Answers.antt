@@ -21,7 +21,7 @@ returns-in_ok-push_committed-in-Committed-clause-told g c =
     let stamp = c.in-Committed.stamp in
     let reply = reply_of client seq s.history in
     let kind = c.kind_of-kind.ensures ∙ ap (λ (p : Plan). kind_of p.layout c.args.script.now.items) c.session.ensures.plan in
-    let pairs = c.pairs_of-pairs.ensures ∙ ap (λ (h : History). unwrap_or (reply_of client seq h) []) c.history.ensures in
+    let pairs = c.pairs_of-pairs.ensures ∙ ap (λ (h : History). unwrap_or (reply_of client seq h) []) c.history.ensures.items in
     let told = script_item_told plan s client seq c.args.script.now.items c.item_end.result c.requires.item c.item_end.ensures in
     let end =
     ap (told_by (kind_of plan.layout c.args.script.now.items) reply (last_refusal client seq s.refusals)) c.in-Committed.is

@@ -1,60 +1,29 @@
-use Rattle.std.proofs.Common.{ap, arith}
-use Rattle.catalogue.specs.PlanOf.{plan_of}
-use Rattle.client_phase.specs.Shown.{PlainClient}
-use Rattle.core_model.specs.State.{client_at, script_now}
+use Rattle.std.proofs.Common.{arith, refl}
 use Rattle.fabric_core.proofs.core_state.CoreState.decide.Goals as goal
 use Rattle.fabric_core.proofs.Decides as decides
 use Rattle.fabric_core.proofs.Present as present
+use Rattle.client_phase.specs.declared.action.Met.TheVariants.{Done}
 
-pub index_mut-state-requires : goal.index_mut-state-requires
-index_mut-state-requires c =
-    let s = c.requires.0 in
-    omega (arith, present.within_kept (plan_of c.args.session.now) c.args.self.now c.args.client c.requires.1 s c.requires.2.turn, c.args.self.now.clients.ok.0)
+pub index_mut-runner-requires : goal.index_mut-runner-requires
+index_mut-runner-requires c = omega (arith, present.within_kept c.requires.2.turn, c.args.self.now.runners.ok.0)
 
-pub decide-requires-clause-last : goal.decide-requires-clause-last
-decide-requires-clause-last c =
-    let plan = plan_of c.args.session.now in
-    let s = c.requires.0 in
-    let turn = c.requires.2.turn in
-    omega (arith, ap (λ (p : PlainClient). p.last.sub) (present.kept_is plan c.args.self.now c.args.client c.requires.1 s turn _ c.index_mut-state.ensures.value), present.last_small plan c.args.self.now c.args.client c.requires.1 s turn)
+pub step-requires-clause-item : goal.step-requires-clause-item
+step-requires-clause-item c = present.item_kept c.requires.2 c.index_mut-runner.ensures.value
 
-pub decide-requires-clause-met : goal.decide-requires-clause-met
-decide-requires-clause-met c =
-    let plan = plan_of c.args.session.now in
-    let s = c.requires.0 in
-    let turn = c.requires.2.turn in
-    omega (arith, ap (λ (p : PlainClient). p.met.sub) (present.kept_is plan c.args.self.now c.args.client c.requires.1 s turn _ c.index_mut-state.ensures.value), present.met_small plan c.args.self.now c.args.client c.requires.1 s turn (script_now plan c.args.client (client_at s c.args.client)))
+pub step-requires-clause-step : goal.step-requires-clause-step
+step-requires-clause-step c = present.can_step c.requires.2 c.index_mut-runner.ensures.value Done refl
 
-pub insert-requires : goal.insert-requires
-insert-requires c =
-    let plan = plan_of c.args.session.now in
-    let core = c.args.self.now in
-    let client = decides.client_after plan core c.args.client c.requires.1 c.args.script.now.items c.requires.0 c.requires.2 c.index_mut-state.result.now c.decide.new.self
-    (present.kept_is plan core c.args.client c.requires.1 c.requires.0 c.requires.2.turn _ c.index_mut-state.ensures.value) c.decide.ensures.client in
-    record {
-      transaction = decides.is_transaction plan core c.args.client c.requires.1 c.args.script.now.items c.requires.0 c.requires.2 c.decide.new.self client;
-      above = decides.is_above plan core c.args.client c.requires.1 c.args.script.now.items c.requires.0 c.requires.2 c.decide.new.self client;
-    }
+pub insert-requires-clause-transaction : goal.insert-requires-clause-transaction
+insert-requires-clause-transaction c = decides.is_transaction c.requires.2 c.index_mut-runner.ensures.value c.step.ensures
 
-pub answer-requires : goal.answer-requires
-answer-requires c =
-    let plan = plan_of c.args.session.now in
-    let core = c.args.self.now in
-    let client = decides.client_after plan core c.args.client c.requires.1 c.args.script.now.items c.requires.0 c.requires.2 c.index_mut-state.result.now c.decide.new.self
-    (present.kept_is plan core c.args.client c.requires.1 c.requires.0 c.requires.2.turn _ c.index_mut-state.ensures.value) c.decide.ensures.client in
-    record {
-      last = decides.is_last plan core c.args.client c.requires.1 c.args.script.now.items c.requires.0 c.requires.2 c.decide.new.self client c.insert.new.self c.insert.ensures;
-      pairs = decides.has_pairs plan core c.args.client c.requires.1 c.args.script.now.items c.requires.0 c.requires.2 c.decide.new.self client c.insert.new.self c.insert.ensures;
-    }
+pub insert-requires-clause-above : goal.insert-requires-clause-above
+insert-requires-clause-above c = decides.is_above c.requires.2 c.index_mut-runner.ensures.value c.step.ensures
+
+pub answer-requires-clause-last : goal.answer-requires-clause-last
+answer-requires-clause-last c = decides.is_last c.requires.2 c.index_mut-runner.ensures.value c.step.ensures c.insert.ensures
+
+pub answer-requires-clause-pairs : goal.answer-requires-clause-pairs
+answer-requires-clause-pairs c = decides.has_pairs c.requires.2 c.index_mut-runner.ensures.value c.step.ensures c.insert.ensures
 
 pub returns : goal.returns
-returns c s at a =
-    let plan = plan_of c.args.session.now in
-    let core = c.args.self.now in
-    record {
-      next = _;
-      step = decides.moves_to plan core c.args.client at c.args.script.now.items s a;
-      stands = decides.stands plan core c.args.client at c.args.script.now.items s a c.decide.new.self c.answer.new.self c.insert.new.self (decides.client_after plan core c.args.client at c.args.script.now.items s a c.index_mut-state.result.now c.decide.new.self (present.kept_is plan core c.args.client at s a.turn _ c.index_mut-state.ensures.value) c.decide.ensures.client)
-          (omega (arith, c.decide.ensures.space, present.space_is plan core c.args.client at s a.turn _ c.index_mut-state.ensures.value))
-          c.insert.ensures c.answer.ensures;
-    }
+returns c s at a = decides.follows a c.index_mut-runner.ensures.value c.step.ensures c.insert.ensures c.answer.ensures

@@ -1,46 +1,66 @@
-use Rattle.std.proofs.Common.{refl, sym, ap, ◌∙◌, arith}
-use Rattle.std.specs.Option.{option_map}
-use Rattle.catalogue.specs.PlanOf.{plan_of}
-use Rattle.client_phase.specs.NextAction.{next_action}
-use Rattle.client_phase.specs.declared.action.Action.TheVariants.{Lock, Release, Decide, Install, Rest}
-use Rattle.fabric_core.proofs.core_state.CoreState.step.Goals as goal
+use Rattle.std.proofs.Common.{ap, refl, sym, Some, ◌∙◌, arith}
+use Rattle.catalogue.specs.Items.{plain_item}
+use Rattle.catalogue.specs.declared.item.Item.{Item}
 use Rattle.fabric_core.proofs.Present as present
-use Rattle.fabric_core.proofs.Turns as turns
+use Rattle.fabric_core.proofs.Stepping as stepping
+use Rattle.fabric_core.proofs.core_state.CoreState.step.Goals as goal
 
-pub index-requires : goal.index-requires
-index-requires c =
-    omega (arith, present.within_kept (plan_of c.args.session.now) c.args.self.now c.args.client c.args.at c.requires.0 c.requires.1, c.args.self.now.clients.ok.0)
-
-pub index-requires-2 : goal.index-requires-2
-index-requires-2 c =
-    omega (arith, present.within_kept (plan_of c.args.session.now) c.args.self.now c.args.client c.args.at c.requires.0 c.requires.1, c.args.self.now.clients.ok.0)
+pub index-runner-requires : goal.index-runner-requires
+index-runner-requires c = omega (arith, present.within_kept c.requires.1, c.args.self.now.runners.ok.0)
 
 pub returns-in_default : goal.returns-in_default
-returns-in_default c s turn = (turns.no_script (plan_of c.args.session.now) c.args.self.now c.args.client c.args.at s turn c.index.result.now _ c.index.ensures (sym c.script.ensures ∙ ap (option_map (λ script. script.now.items)) c.in_default.is), refl)
+returns-in_default c s turn = (stepping.rests_behind turn c.index-runner.ensures c.in_default.ensures, refl)
 
-pub ask-requires : goal.ask-requires
-ask-requires c = (c.requires.0, c.in-Lock.field-0, turns.action_here (plan_of c.args.session.now) c.args.self.now c.args.client c.args.at c.requires.0 c.requires.1 c.in-Some.script.now.items c.index.result.now c.index-2.result.now _ _ c.next_action.result (Lock c.in-Lock.field-0) c.index.ensures c.index-2.ensures (sym c.script.ensures ∙ ap (option_map (λ script. script.now.items)) c.in-Some.is) (c.next_action.ensures ∙ ap (next_action c.index-2.result.now.phase c.index-2.result.now.locked c.index-2.result.now.installed) c.len.ensures) c.in-Lock.is)
+pub returns-in_default-item : goal.returns-in_default-item
+returns-in_default-item c s turn = (stepping.rests_lost turn c.index-runner.ensures (ap (λ (item : Item). Some (plain_item item)) (sym c.in_default-item.is) ∙ c.in-Some.ensures), refl)
 
-pub release-requires : goal.release-requires
-release-requires c = (c.requires.0, c.in-Release.field-0, c.args.at, turns.action_here (plan_of c.args.session.now) c.args.self.now c.args.client c.args.at c.requires.0 c.requires.1 c.in-Some.script.now.items c.index.result.now c.index-2.result.now _ _ c.next_action.result (Release c.in-Release.field-0) c.index.ensures c.index-2.ensures (sym c.script.ensures ∙ ap (option_map (λ script. script.now.items)) c.in-Some.is) (c.next_action.ensures ∙ ap (next_action c.index-2.result.now.phase c.index-2.result.now.locked c.index-2.result.now.installed) c.len.ensures) c.in-Release.is)
+pub action-requires-clause-fault : goal.action-requires-clause-fault
+action-requires-clause-fault c = stepping.has_no_fault c.requires.1 c.index-runner.ensures c.in-Some.ensures
 
-pub decide-requires : goal.decide-requires
-decide-requires c = (c.requires.0, c.args.at, turns.action_here (plan_of c.args.session.now) c.args.self.now c.args.client c.args.at c.requires.0 c.requires.1 c.in-Some.script.now.items c.index.result.now c.index-2.result.now _ _ c.next_action.result (Decide) c.index.ensures c.index-2.ensures (sym c.script.ensures ∙ ap (option_map (λ script. script.now.items)) c.in-Some.is) (c.next_action.ensures ∙ ap (next_action c.index-2.result.now.phase c.index-2.result.now.locked c.index-2.result.now.installed) c.len.ensures) c.in-Decide.is)
+pub action-requires-clause-fits : goal.action-requires-clause-fits
+action-requires-clause-fits c = stepping.fits c.requires.1 c.index-runner.ensures c.in-Some.ensures
 
-pub install-requires : goal.install-requires
-install-requires c = (c.requires.0, c.in-Install.field-0, c.args.at, turns.action_here (plan_of c.args.session.now) c.args.self.now c.args.client c.args.at c.requires.0 c.requires.1 c.in-Some.script.now.items c.index.result.now c.index-2.result.now _ _ c.next_action.result (Install c.in-Install.field-0) c.index.ensures c.index-2.ensures (sym c.script.ensures ∙ ap (option_map (λ script. script.now.items)) c.in-Some.is) (c.next_action.ensures ∙ ap (next_action c.index-2.result.now.phase c.index-2.result.now.locked c.index-2.result.now.installed) c.len.ensures) c.in-Install.is)
-
-pub returns-in-Rest : goal.returns-in-Rest
-returns-in-Rest c s turn = (turns.rests (plan_of c.args.session.now) c.args.self.now c.args.client c.args.at s turn ((turns.action_here (plan_of c.args.session.now) c.args.self.now c.args.client c.args.at s turn c.in-Some.script.now.items c.index.result.now c.index-2.result.now _ _ c.next_action.result (Rest) c.index.ensures c.index-2.ensures (sym c.script.ensures ∙ ap (option_map (λ script. script.now.items)) c.in-Some.is) (c.next_action.ensures ∙ ap (next_action c.index-2.result.now.phase c.index-2.result.now.locked c.index-2.result.now.installed) c.len.ensures) c.in-Rest.is).next), refl)
+pub ask-requires-clause-action : goal.ask-requires-clause-action
+ask-requires-clause-action c = (c.requires.0, stepping.acts c.requires.1 c.index-runner.ensures c.in-Some.ensures c.action.ensures c.in-Lock.is)
 
 pub returns-in-Lock : goal.returns-in-Lock
-returns-in-Lock c s turn = c.ask.ensures s c.in-Lock.field-0 (turns.action_here (plan_of c.args.session.now) c.args.self.now c.args.client c.args.at s turn c.in-Some.script.now.items c.index.result.now c.index-2.result.now _ _ c.next_action.result (Lock c.in-Lock.field-0) c.index.ensures c.index-2.ensures (sym c.script.ensures ∙ ap (option_map (λ script. script.now.items)) c.in-Some.is) (c.next_action.ensures ∙ ap (next_action c.index-2.result.now.phase c.index-2.result.now.locked c.index-2.result.now.installed) c.len.ensures) c.in-Lock.is)
+returns-in-Lock c s turn = c.ask.ensures s (stepping.acts turn c.index-runner.ensures c.in-Some.ensures c.action.ensures c.in-Lock.is)
+
+pub release-requires-clause-action : goal.release-requires-clause-action
+release-requires-clause-action c = (c.requires.0, c.args.at, stepping.acts c.requires.1 c.index-runner.ensures c.in-Some.ensures c.action.ensures c.in-Release.is)
 
 pub returns-in-Release : goal.returns-in-Release
-returns-in-Release c s turn = c.release.ensures s c.in-Release.field-0 c.args.at (turns.action_here (plan_of c.args.session.now) c.args.self.now c.args.client c.args.at s turn c.in-Some.script.now.items c.index.result.now c.index-2.result.now _ _ c.next_action.result (Release c.in-Release.field-0) c.index.ensures c.index-2.ensures (sym c.script.ensures ∙ ap (option_map (λ script. script.now.items)) c.in-Some.is) (c.next_action.ensures ∙ ap (next_action c.index-2.result.now.phase c.index-2.result.now.locked c.index-2.result.now.installed) c.len.ensures) c.in-Release.is)
+returns-in-Release c s turn = c.release.ensures s c.args.at (stepping.acts turn c.index-runner.ensures c.in-Some.ensures c.action.ensures c.in-Release.is)
+
+pub decide-requires : goal.decide-requires
+decide-requires c = (c.requires.0, c.args.at, stepping.acts c.requires.1 c.index-runner.ensures c.in-Some.ensures c.action.ensures c.in-Decide.is)
 
 pub returns-in-Decide : goal.returns-in-Decide
-returns-in-Decide c s turn = c.decide.ensures s c.args.at (turns.action_here (plan_of c.args.session.now) c.args.self.now c.args.client c.args.at s turn c.in-Some.script.now.items c.index.result.now c.index-2.result.now _ _ c.next_action.result (Decide) c.index.ensures c.index-2.ensures (sym c.script.ensures ∙ ap (option_map (λ script. script.now.items)) c.in-Some.is) (c.next_action.ensures ∙ ap (next_action c.index-2.result.now.phase c.index-2.result.now.locked c.index-2.result.now.installed) c.len.ensures) c.in-Decide.is)
+returns-in-Decide c s turn = c.decide.ensures s c.args.at (stepping.acts turn c.index-runner.ensures c.in-Some.ensures c.action.ensures c.in-Decide.is)
+
+pub log_intent-requires-clause-action : goal.log_intent-requires-clause-action
+log_intent-requires-clause-action c = (c.requires.0, c.args.at, stepping.acts c.requires.1 c.index-runner.ensures c.in-Some.ensures c.action.ensures c.in-LogIntent.is)
+
+pub returns-in-LogIntent : goal.returns-in-LogIntent
+returns-in-LogIntent c s turn = c.log_intent.ensures s c.args.at (stepping.acts turn c.index-runner.ensures c.in-Some.ensures c.action.ensures c.in-LogIntent.is)
+
+pub post-requires : goal.post-requires
+post-requires c = record { action = (c.requires.0, c.args.at, stepping.acts c.requires.1 c.index-runner.ensures c.in-Some.ensures c.action.ensures c.in-Post.is) }
+
+pub returns-in-Post : goal.returns-in-Post
+returns-in-Post c s turn = c.post.ensures s c.args.at (stepping.acts turn c.index-runner.ensures c.in-Some.ensures c.action.ensures c.in-Post.is)
+
+pub take_answer-requires-clause-action : goal.take_answer-requires-clause-action
+take_answer-requires-clause-action c = (c.requires.0, c.args.at, stepping.acts c.requires.1 c.index-runner.ensures c.in-Some.ensures c.action.ensures c.in-LogOutcome.is)
+
+pub returns-in-LogOutcome : goal.returns-in-LogOutcome
+returns-in-LogOutcome c s turn = c.take_answer.ensures s c.args.at (stepping.acts turn c.index-runner.ensures c.in-Some.ensures c.action.ensures c.in-LogOutcome.is)
+
+pub install-requires-clause-action : goal.install-requires-clause-action
+install-requires-clause-action c = (c.requires.0, c.args.at, stepping.acts c.requires.1 c.index-runner.ensures c.in-Some.ensures c.action.ensures c.in-Install.is)
 
 pub returns-in-Install : goal.returns-in-Install
-returns-in-Install c s turn = c.install.ensures s c.in-Install.field-0 c.args.at (turns.action_here (plan_of c.args.session.now) c.args.self.now c.args.client c.args.at s turn c.in-Some.script.now.items c.index.result.now c.index-2.result.now _ _ c.next_action.result (Install c.in-Install.field-0) c.index.ensures c.index-2.ensures (sym c.script.ensures ∙ ap (option_map (λ script. script.now.items)) c.in-Some.is) (c.next_action.ensures ∙ ap (next_action c.index-2.result.now.phase c.index-2.result.now.locked c.index-2.result.now.installed) c.len.ensures) c.in-Install.is)
+returns-in-Install c s turn = c.install.ensures s c.args.at (stepping.acts turn c.index-runner.ensures c.in-Some.ensures c.action.ensures c.in-Install.is)
+
+pub returns-in-Lose : goal.returns-in-Lose
+returns-in-Lose c s turn = (stepping.rests turn c.index-runner.ensures c.in-Some.ensures c.action.ensures c.in-Lose.is, refl)

@@ -11,7 +11,7 @@ pub rounds-smaller : goal.rounds-smaller
 rounds-smaller g c = driving_lessens c.rounds.self c.take_rota.new.self c.finished.result c.rounds.invariant.run c.finished.ensures c.rounds-test.true c.take_rota.ensures
 
 pub rounds-preserved : goal.rounds-preserved
-rounds-preserved g c = driving_round c.args.self.now c.rounds.self c.take_rota.new.self c.rounds.invariant c.take_rota.ensures
+rounds-preserved g c = driving_round c.args.self.now c.rounds.self c.take_rota.new.self c.finished.result c.rounds.invariant c.finished.ensures c.rounds-test.true c.take_rota.ensures
 
 pub returns-clause-moves : goal.returns-clause-moves
 returns-clause-moves g c = driving_ends c.args.self.now c.rounds.self c.finished.result c.rounds.invariant c.finished.ensures c.rounds-test.false

@@ -1,4 +1,4 @@
-use Rattle.core_model.specs.Bound.{moves_left}
+use Rattle.fabric_model.specs.Bound.{moves_left}
 use Rattle.fabric_core.specs.Running.{state_in}
 use Rattle.fabric_core.proofs.Takes.{IsDriving}
 use Rattle.fabric_core.proofs.world.World.finish.Given as goal

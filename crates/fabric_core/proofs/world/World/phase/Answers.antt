@@ -1,7 +1,7 @@
 use Rattle.std.proofs.Common.{ap, ◌∙◌, arith}
 use Rattle.catalogue.specs.PlanOf.{plan_of}
-use Rattle.client_phase.specs.declared.client_state.ClientState as code
-use Rattle.core_model.specs.Run.{state_now}
+use Rattle.fabric_core.specs.declared.runner.Runner.{Runner}
+use Rattle.fabric_model.specs.Run.{state_now}
 use Rattle.fabric_core.proofs.Phases.{is_kept, phase_kept}
 use Rattle.fabric_core.proofs.Worlds.{is_reached}
 use Rattle.fabric_core.proofs.world.World.phase.Goals as goal
@@ -11,7 +11,7 @@ index-requires g c =
     let plan = plan_of c.self.inside.session in
     let s = state_now plan c.self.inside.trace.items in
     let within = rw (← c.self.view_is) at c.requires in
-    omega (arith, is_kept plan s c.self.inside.core c.args.client (is_reached _ _ _ _ c.self.invariant) c.self.invariant.stands within, c.self.inside.core.clients.ok.0)
+    omega (arith, is_kept plan s c.self.inside.core c.args.client (is_reached _ _ _ _ c.self.invariant) c.self.invariant.stands within, c.self.inside.core.runners.ok.0)
 
 pub returns : goal.returns
 returns g c =
@@ -19,4 +19,4 @@ returns g c =
     let s = state_now plan c.self.inside.trace.items in
     let within = rw (← c.self.view_is) at c.requires in
     let same = phase_kept plan s c.self.inside.core c.args.client c.index.result.now (is_reached _ _ _ _ c.self.invariant) c.self.invariant.stands within in
-    rw (← c.self.view_is) (ap (λ (x : code.ClientState). x.phase) c.index.ensures ∙ same)
+    rw (← c.self.view_is) (ap (λ (x : Runner). x.state.phase) c.index.ensures ∙ same)

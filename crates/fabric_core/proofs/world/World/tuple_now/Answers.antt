@@ -1,15 +1,32 @@
-use Rattle.std.proofs.Common.{IsSome, sym, subst}
-use Rattle.std.specs.FinMap as fin
+use Rattle.std.proofs.Common.{rules, w64, SFits, sym, ◌∙◌}
+use Rattle.std.proofs.lemmas.Int.{to_z-of_z}
 use Rattle.catalogue.specs.PlanOf.{plan_of}
-use Rattle.core_model.specs.Run.{state_now}
-use Rattle.core_model.proofs.Stored.{stored}
-use Rattle.host_store.specs.Store.{Store}
+use Rattle.fabric_model.specs.Run.{state_now}
+use Rattle.fabric_core.proofs.SwitchSeen.{place_there, register_shown, stored_there, value_shown}
 use Rattle.fabric_core.proofs.Worlds.{is_reached}
 use Rattle.fabric_core.proofs.world.World.tuple_now.Goals as goal
+
+pub register-requires : goal.register-requires
+register-requires g c =
+    let plan = plan_of c.self.inside.session in
+    place_there plan (state_now plan c.self.inside.trace.items) c.self.inside.core (is_reached _ _ _ _ c.self.invariant) c.self.invariant.stands c.args.tuple c.in-Some.place (sym c.in-Some.ensures)
+
+pub returns-in-Some : goal.returns-in-Some
+returns-in-Some g c =
+    let plan = plan_of c.self.inside.session in
+    let shown = register_shown plan (state_now plan c.self.inside.trace.items) c.self.inside.core (is_reached _ _ _ _ c.self.invariant) c.self.invariant.stands c.args.tuple c.in-Some.place (sym c.in-Some.ensures) in
+    let fits : SFits w64 c.register.result = search rules in
+    rw (← c.self.view_is) (to_z-of_z w64 c.register.result fits ∙ c.register.ensures ∙ shown)
 
 pub read-requires : goal.read-requires
 read-requires g c =
     let plan = plan_of c.self.inside.session in
-    let s = state_now plan c.self.inside.trace.items in
     let there = rw (← c.self.view_is) at c.requires in
-    subst (λ (m : Store). IsSome (fin.get m c.args.tuple)) (sym c.self.invariant.stands.store) ((stored plan s c.args.tuple (is_reached _ _ _ _ c.self.invariant)).1 there)
+    stored_there plan (state_now plan c.self.inside.trace.items) c.self.inside.core (is_reached _ _ _ _ c.self.invariant) c.self.invariant.stands c.args.tuple (sym c.in-None.ensures) there
+
+pub returns-in-None : goal.returns-in-None
+returns-in-None g c =
+    let plan = plan_of c.self.inside.session in
+    let shown = value_shown plan (state_now plan c.self.inside.trace.items) c.self.inside.core (is_reached _ _ _ _ c.self.invariant) c.self.invariant.stands c.args.tuple (sym c.in-None.ensures) c.read.result c.read.ensures in
+    let fits : SFits w64 c.read.result.value = search rules in
+    rw (← c.self.view_is) (to_z-of_z w64 c.read.result.value fits ∙ shown)

@@ -1,5 +1,0 @@
-use Rattle.core_model.proofs.Refusals.{refusals_of_run}
-use Rattle.core_model.proofs.laws.refusals_are_true.Goals as goal
-
-pub returns : goal.returns
-returns c = refusals_of_run

@@ -1,0 +1,73 @@
+-- What a client whose turn it is does.
+use Rattle.std.proofs.Common.{◌≡◌, ◌⊎◌, ℕ, zero, suc, ◌<◌, List, [], ◌∷◌, length, get_or, Option, Some, None, inl, inr, refl, sym, ap, subst, ◌∙◌, arith}
+use Rattle.catalogue.specs.Plan as catalogue
+use Rattle.catalogue.specs.Plan.{Plan, PlainItem, item_of}
+use Rattle.catalogue.specs.declared.actor.Actor.TheVariants.{Client}
+use Rattle.core_model.specs.State.{ClientState}
+use Rattle.client_phase.specs.Fits.{Fits, FitsAny, HasNoFault}
+use Rattle.client_phase.specs.Laws.{IsAt}
+use Rattle.client_phase.specs.Moves.{move_of}
+use Rattle.client_phase.specs.NextAction.{next_action}
+use Rattle.client_phase.specs.Shown.{plain_client, shown_now}
+use Rattle.client_phase.specs.declared.action.Action.{Action}
+use Rattle.client_phase.specs.declared.action.Action.TheVariants.{Lose, Rest}
+use Rattle.client_phase.proofs.NextMoves.{actions_are_moves}
+use Rattle.fabric_model.specs.State.{State, client_at}
+use Rattle.fabric_model.specs.Step.{client_step, step}
+use Rattle.fabric_core.specs.Standing.{IsActionIn, IsTurnIn}
+use Rattle.fabric_core.specs.declared.core_state.CoreState.{CoreState}
+use Rattle.fabric_core.specs.declared.runner.Runner.{Runner}
+use Rattle.fabric_core.proofs.Present as present
+
+-- within a list the default is never read
+any_default : (xs : List Runner) (i : ℕ) (d e : Runner) → i < length xs → get_or xs i d ≡ get_or xs i e
+any_default [] i d e lt = absurd (omega arith)
+any_default (x ∷ xs) zero d e lt = refl
+any_default (x ∷ xs) (suc i) d e lt = any_default xs i d e (omega arith)
+
+module _ {plan : Plan} {core : CoreState} {c at : ℕ} {s : State} (turn : IsTurnIn plan core (Client c) at s) {r : Runner} (here : r ≡ get_or core.runners.items c r) where
+  abbrev x : ClientState
+  x = client_at s c
+
+  kept : plain_client r.state ≡ shown_now plan c x
+  kept = (present.is_runner turn here).kept
+
+  item_now : {o : Option PlainItem} → o ≡ item_of plan c r.state.seq → item_of plan c x.seq ≡ o
+  item_now is = ap (item_of plan c) (sym (present.seq_kept turn here)) ∙ sym is
+
+  -- one that has finished, or is at a loss of the switch, doesn't move
+  pub rests_behind : None ≡ item_of plan c r.state.seq → step plan s (Client c) ≡ None
+  rests_behind is =
+      let finished = subst (IsAt plan c x r.parts) (item_now is) (present.clients_fit turn here).at in
+      present.step_here turn ∙ ap (client_step plan s c x) finished
+
+  pub rests_lost : Some catalogue.Lose ≡ item_of plan c r.state.seq → step plan s (Client c) ≡ None
+  rests_lost is =
+      present.step_here turn ∙ actions_are_moves plan s c x r.parts (present.clients_fit turn here).at
+      ∙ ap (λ (o : Option PlainItem). move_of plan s c x (next_action r.parts (shown_now plan c x) o)) (item_now is)
+
+  module _ {item : PlainItem} (is : Some item ≡ item_of plan c r.state.seq) where
+    fits_any : FitsAny r.parts (shown_now plan c x) (Some item)
+    fits_any = subst (FitsAny r.parts (shown_now plan c x)) (item_now is) (present.clients_fit turn here).fits
+
+    pub has_no_fault : HasNoFault item
+    has_no_fault = fits_any.0
+
+    pub fits : Fits r.parts item (plain_client r.state)
+    fits = subst (Fits r.parts item) (sym kept) fits_any.1
+
+    -- its next action
+    pub acts : {action result : Action} → result ≡ next_action r.parts (plain_client r.state) (Some item) → result ≡ action → IsActionIn plan core c at item action s
+    acts {action} chosen named = record {
+      turn = turn;
+      item = item_now is;
+      next = λ other. ap (λ (k : Runner). next_action k.parts (plain_client k.state) (Some item)) (at_place other) ∙ sym chosen ∙ named;
+    }
+      where
+        at_place : (other : Runner) → get_or core.runners.items c other ≡ r
+        at_place other = any_default core.runners.items c other r (present.within_kept turn) ∙ sym here
+
+    -- where it has nothing to do it doesn't move
+    pub rests : {result : Action} → result ≡ next_action r.parts (plain_client r.state) (Some item) → (result ≡ Lose) ⊎ (result ≡ Rest) → step plan s (Client c) ≡ None
+    rests chosen (inl is_lost) = present.step_is (acts chosen is_lost) here
+    rests chosen (inr is_rest) = present.step_is (acts chosen is_rest) here
