@@ -13,4 +13,6 @@ pub use session_reader::{Limit, OpAt, Section, SessionFault};
 pub use top::{Ended, command};
 
 #[cfg(test)]
+mod legal;
+#[cfg(test)]
 mod tests;
