@@ -1,0 +1,3 @@
+pub mod EqualRange
+pub mod UseCounts
+pub mod Ranked
