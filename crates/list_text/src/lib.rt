@@ -1,0 +1,12 @@
+//! The texts of lists: of the most used tuples of a session.
+//!
+//! A text is a function of plain data, defined in specs/. This crate writes to no sink, and doesn't know how
+//! a list came to be.
+#![tactic(auto)]
+
+mod hot_list;
+
+pub use hot_list::hot_text;
+
+#[cfg(test)]
+mod tests;
