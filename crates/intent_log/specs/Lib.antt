@@ -1,2 +1,7 @@
 pub mod LogText
 pub mod Records
+pub mod Grammar
+pub mod Reading
+pub mod Told
+pub mod Checking
+pub mod Laws

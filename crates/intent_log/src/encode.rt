@@ -12,11 +12,11 @@ use switch_packet::{Intent, Outcome, encode_into, push_bytes, push_i64, push_u32
 use txn_model::{Pair, Pairs};
 
 /// The first byte of an intent: `I`.
-const INTENT_MARK: u8 = 0x49;
+pub(crate) const INTENT_MARK: u8 = 0x49;
 /// The first byte of an outcome: `O`.
-const OUTCOME_MARK: u8 = 0x4f;
+pub(crate) const OUTCOME_MARK: u8 = 0x4f;
 /// The second byte of each: which version of the format it is.
-const VERSION: u8 = 1;
+pub(crate) const VERSION: u8 = 1;
 
 /// Puts the intent's text into `buf`, in place of what it held.
 #[tactic(auto, unfolding(crate::specs::LogText::intent_text))]
