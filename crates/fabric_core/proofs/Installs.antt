@@ -100,7 +100,7 @@ module _ {plan : Plan} {core : CoreState} {c at k : ℕ} {item : PlainItem} {s :
 
     pub follows : {new : Runner} {locks : Locks} {store : hosts.Store} → IsWithLock core.locks locks op.tuple c None → store ≡ hosts.installed core.store op.tuple pair.now r.state.last
         → HasStepped plan c item r new (Install k) Done
-        → Follows plan s (Client c) (record { runners = with_item core.runners c new; logs = core.logs; pipeline = core.pipeline; locks = locks; store = store; history = core.history; refusals = core.refusals; packet = core.packet; text = core.text })
+        → Follows plan s (Client c) (record { runners = with_item core.runners c new; logs = core.logs; pipeline = core.pipeline; locks = locks; store = store; history = core.history; refusals = core.refusals; draft = core.draft })
     unfolding installed
     follows {new} {locks} {store} with_lock put has = record {
       next = installed plan s c x (op, pair);
@@ -119,7 +119,6 @@ module _ {plan : Plan} {core : CoreState} {c at k : ℕ} {item : PlainItem} {s :
         runs = a.turn.stands.runs;
         refusals = a.turn.stands.refusals;
         refused = a.turn.stands.refused;
-        packet = a.turn.stands.packet;
-        text = a.turn.stands.text;
+        draft = a.turn.stands.draft;
       };
     }

@@ -9,6 +9,7 @@ pub mod HotPlaces
 pub mod Installs
 pub mod Intents
 pub mod Items
+pub mod LogTexts
 pub mod Logs
 pub mod NextActions
 pub mod Openings
@@ -22,6 +23,7 @@ pub mod Posts
 pub mod Present
 pub mod Releases
 pub mod Replies
+pub mod EmptiedLogs
 pub mod Runners
 pub mod Stepping
 pub mod Stored

@@ -1,7 +1,9 @@
 -- A client that takes the answer to its packet does as the model's.
-use Rattle.std.proofs.Common.{◌≡◌, ℕ, suc, ◌<◌, ◌≤◌, Bool, true, false, List, [], ◌∷◌, ◌++◌, length, get_or, set, Option, Some, None, IsSome, option_map, refl, sym, ap, subst, ◌∙◌, arith, if◌then◌else◌}
+use Rattle.std.proofs.Common.{◌≡◌, ◌≢◌, ℕ, suc, ◌<◌, ◌≤◌, Bool, true, false, List, [], ◌∷◌, ◌++◌, length, get_or, set, Option, Some, None, IsSome, option_map, inr, refl, sym, ap, subst, ◌∙◌, Result, Ok, Err, arith, if◌then◌else◌}
 use Rattle.std.specs.Vec.{with_item}
-use Rattle.std.proofs.lemmas.List.{length_push, get_or-set_same}
+use Rattle.std.proofs.lemmas.List.{length_push, get_or-set_same, get_or-set_other}
+use Rattle.port_io.specs.declared.log_rack.RackFault.{RackFault}
+use Rattle.port_io.specs.declared.log_rack.RackFault.TheVariants as racks
 use Rattle.txn_model.specs.Listed.{Listed}
 use Rattle.txn_model.specs.ScriptCheck.{script_fault}
 use Rattle.txn_model.specs.declared.op.Op.{Op}
@@ -29,6 +31,8 @@ use Rattle.warm_split.specs.OpSet.{members}
 use Rattle.warm_split.specs.Parts.{IsParts}
 use Rattle.warm_split.specs.Sides.{IsOneVisit, found_values, hot_ops}
 use Rattle.warm_split.specs.declared.parts.Parts.{Parts}
+use Rattle.intent_log.specs.LogText.{outcome_text}
+use Rattle.intent_log.specs.Records.{HasPairs}
 use Rattle.log_records.specs.Records.{PlainRecords}
 use Rattle.catalogue.specs.Plan.{Plan, PlainItem, Run, items_of}
 use Rattle.catalogue.specs.declared.actor.Actor.TheVariants.{Client}
@@ -50,19 +54,30 @@ use Rattle.fabric_model.specs.ColdFacts as cold
 use Rattle.fabric_model.specs.Intents.{values_of, with_outcome}
 use Rattle.fabric_model.specs.Laws.{IsReached}
 use Rattle.fabric_model.specs.State.{Records, State, client_at, log_at, no_records}
+use Rattle.fabric_model.specs.Recorded.{has_open}
 use Rattle.fabric_model.specs.Step.{replied, step, taken}
 use Rattle.fabric_model.proofs.PerClient.{logs_stay}
 use Rattle.fabric_model.proofs.Runs.{reached_step}
 use Rattle.fabric_model.proofs.SmallStamps.{fits_room}
-use Rattle.fabric_core.specs.Standing.{IsActionIn, IsLog, IsRunner, Follows}
+use Rattle.fabric_core.specs.CoreTurns.{IsTurnOf, Moves, turn_after}
+use Rattle.fabric_core.specs.Drafts.{HasDraftRoom}
+use Rattle.fabric_core.specs.Racks.{Rack}
+use Rattle.fabric_core.specs.RecordTexts.{AddsRecord, text_of}
+use Rattle.fabric_core.specs.Standing.{IsActionIn, IsLog, IsRunner, StandsFor}
 use Rattle.fabric_core.specs.Steps.{CanStep, HasStepped}
 use Rattle.fabric_core.specs.declared.core_state.CoreState.{CoreState}
+use Rattle.fabric_core.specs.declared.draft.Draft.{Draft}
 use Rattle.fabric_core.specs.declared.runner.Runner.{Runner}
+use Rattle.fabric_core.specs.declared.turn.Turn.{Turn}
+use Rattle.fabric_core.specs.declared.turn.Turn.TheVariants as turns
 use Rattle.fabric_core.proofs.Held.{locks_taken}
+use Rattle.fabric_core.proofs.HotPlaces.{some_hot_op}
+use Rattle.fabric_core.proofs.LogTexts.{IsAppend, appended_turn, failed_turn, text_with_outcome}
 use Rattle.fabric_core.proofs.Logs.{logs_set}
 use Rattle.fabric_core.proofs.NextActions.{outcome_is}
 use Rattle.fabric_core.proofs.PacketMoves.{takes_move, takes_nothing}
 use Rattle.fabric_core.proofs.PartsOfScripts.{members_are}
+use Rattle.fabric_core.proofs.Posts as posts
 use Rattle.fabric_core.proofs.Present as present
 use Rattle.fabric_core.proofs.Replies as facts
 use Rattle.fabric_core.proofs.Runners.{runner_stepped, runners_set}
@@ -84,7 +99,7 @@ few_hot rows (op ∷ ops) = by (is_hot rows op.tuple) (few_hot rows ops)
 
 -- ---- an answer in a box
 
-record Got (now : Switch) (c number : ℕ) : Type 0 where
+pub record Got (now : Switch) (c number : ℕ) : Type 0 where
   pub answer : Answer
   pub said : answer_of now c ≡ Some answer
   pub is : number ≡ answer.number
@@ -190,7 +205,7 @@ module _ {plan : Plan} {core : CoreState} {c at : ℕ} {item : PlainItem} {s : S
   -- ---- with one
 
   module _ {number : ℕ} {result : Option ℕ} (told : result ≡ option_map (λ box. box.number) (box_of core.pipeline c)) (some : result ≡ Some number) where
-    got : Got now c number
+    pub got : Got now c number
     got = got_from now c number (answer_of now c) refl (ap (option_map (λ (box : PlainBox). box.number)) (sym box_now) ∙ sym told ∙ some)
 
     abbrev answer : Answer
@@ -199,13 +214,13 @@ module _ {plan : Plan} {core : CoreState} {c at : ℕ} {item : PlainItem} {s : S
     abbrev reply : List Pair
     reply = joined plan.layout script (values_of x.noted) answer.pairs
 
-    can : (next : Switch) × (take_answer now c ≡ Some next)
+    pub can : (next : Switch) × (take_answer now c ≡ Some next)
     can = some_of (take_answer now c) (can_take_answer now c answer got.said)
 
-    abbrev next : State
+    abbrev pub next : State
     next = taken plan s c x answer can.0
 
-    moves_to : step plan s (Client c) ≡ Some next
+    pub moves_to : step plan s (Client c) ≡ Some next
     moves_to = takes_move plan s c now a.turn.stands.switch.up answer can.0 within waiting got.said can.1
 
     reached_next : IsReached plan next
@@ -229,8 +244,44 @@ module _ {plan : Plan} {core : CoreState} {c at : ℕ} {item : PlainItem} {s : S
       pub hot_count : length hot ≡ members r.parts.hot (length ops)
       hot_count = as_many ∙ sym (members_are plan.layout script r.parts at_script.visit at_script.sets) ∙ ap (λ (l : List Op). members r.parts.hot (length l)) same_ops
 
+      -- the packet has an operation
+      some_many : 1 ≤ length hot
+      some_many = omega (arith, as_many, not_none (hot_ops plan.layout script) (some_hot_op plan.layout script (posts.has_hot_waiting plan s reached c waiting)))
+        where
+          not_none : (l : List Op) → l ≢ [] → 1 ≤ length l
+          not_none [] n = absurd (n refl)
+          not_none (op ∷ l) n = omega arith
+
       pub few : length hot ≤ 16
       few = omega (arith, as_many, few_hot plan.layout script, sound_length script at_script.visit.script)
+
+      -- the record, as it is made
+      module _ (outcome_made : PlainOutcome) (seq : ℕ) (same : seq ≡ r.state.seq) (made : outcome_made ≡ record { seq = seq; number = number; pairs = hot }) where
+        abbrev told_one : PlainOutcome
+        told_one = record { seq = x.seq; number = answer.number; pairs = answer.pairs }
+
+        told_is : outcome_made ≡ told_one
+        told_is =
+            made ∙ ap (λ (n : ℕ). record { seq = n; number = number; pairs = hot }) (same ∙ seq_now) ∙ ap (λ (n : ℕ). record { seq = x.seq; number = n; pairs = hot }) got.is
+            ∙ ap (λ (l : List Pair). record { seq = x.seq; number = answer.number; pairs = l }) hot_is
+
+        pub some_pairs : HasPairs outcome_made
+        some_pairs = subst HasPairs (sym made) (some_many, few)
+
+        pub adds : AddsRecord plan s c (outcome_text outcome_made)
+        unfolding taken
+        adds = record { next = next; step = moves_to; more = inr (told_one, get_or-set_same s.logs c (with_outcome told_one (log_at s c)) no_records within_logs, ap outcome_text told_is) }
+
+        pub longer : text_of (log_at next c) ≡ text_of (log_at s c) ++ outcome_text outcome_made
+        unfolding taken
+        longer =
+            ap text_of (get_or-set_same s.logs c (with_outcome told_one (log_at s c)) no_records within_logs)
+            ∙ text_with_outcome plan s reached c told_one (ap has_open waiting)
+            ∙ ap (λ (o : PlainOutcome). text_of (log_at s c) ++ outcome_text o) (sym told_is)
+
+      pub others : (d : ℕ) → d ≢ c → log_at next d ≡ log_at s d
+      unfolding taken
+      others d n = get_or-set_other s.logs c d (with_outcome (record { seq = x.seq; number = answer.number; pairs = answer.pairs }) (log_at s c)) no_records n
 
       -- the log of the client
       module _ {log : PlainRecords} (there : log ≡ get_or core.logs.items c log) where
@@ -328,30 +379,50 @@ module _ {plan : Plan} {core : CoreState} {c at : ℕ} {item : PlainItem} {s : S
           goes = subst (GoesAlong plan.shape (Some (dropped core.pipeline c))) can.1
               (subst (IsDropped plan.shape core.pipeline now c) got.said (answer_shown plan.shape now core.pipeline c a.turn.stands.switch.shows).dropped)
 
-          pub follows : {log : PlainRecords} (there : log ≡ get_or core.logs.items c log) (seq : ℕ) → seq ≡ r.state.seq → (log_new : PlainRecords) → log_new ≡ record log { outcomes = log.outcomes ++ record { seq = seq; number = number; pairs = hot } ∷ [] }
+          pub stands_next : {log : PlainRecords} (there : log ≡ get_or core.logs.items c log) (seq : ℕ) → seq ≡ r.state.seq → (log_new : PlainRecords) → log_new ≡ record log { outcomes = log.outcomes ++ record { seq = seq; number = number; pairs = hot } ∷ [] }
               → (history : Recorded) → history ≡ record core.history { items = kept.with_reply c seq pairs.items core.history.items } → (pipeline : PlainPipeline) → pipeline ≡ dropped core.pipeline c
-              → Follows plan s (Client c) (record core { runners = with_item core.runners c new; logs = with_item core.logs c log_new; pipeline = pipeline; history = history })
+              → StandsFor plan next (record core { runners = with_item core.runners c new; logs = with_item core.logs c log_new; pipeline = pipeline; history = history })
           unfolding taken
-          follows there seq same log_new pushed history replied_to pipeline is_dropped = record {
-            next = next;
-            step = moves_to;
-            stands = record {
-              runners = runners_set plan s.clients core.runners.items c z new within a.turn.stands.runners new_is;
-              logs = logs_set plan s.logs core.logs.items c (with_outcome (record { seq = x.seq; number = answer.number; pairs = answer.pairs }) (log_at s c)) log_new within_logs a.turn.stands.logs (logs_next there seq log_new same pushed);
-              switch = record { now = can.0; up = refl; shows = subst (λ (p : PlainPipeline). Shows plan.shape p can.0) (sym (same_some goes.1) ∙ sym is_dropped) goes.2 };
-              locks = locks_taken plan s core.locks c answer can.0 a.turn.stands.locks within;
-              tuples = a.turn.stands.tuples;
-              store = a.turn.stands.store;
-              history =
-                  ap (λ (h : Recorded). h.items) replied_to
-                  ∙ ap (λ (n : ℕ). kept.with_reply c n pairs.items core.history.items) (same ∙ seq_now)
-                  ∙ ap (λ (l : List Pair). kept.with_reply c x.seq l core.history.items) reply_is
-                  ∙ ap (kept.with_reply c x.seq reply) a.turn.stands.history
-                  ∙ sym (facts.replies_agree plan s reached c now a.turn.stands.switch.up answer got.said reply);
-              runs = ap (λ (h : Recorded). h.runs) replied_to ∙ a.turn.stands.runs;
-              refusals = a.turn.stands.refusals;
-              refused = a.turn.stands.refused;
-              packet = a.turn.stands.packet;
-              text = a.turn.stands.text;
-            };
+          stands_next there seq same log_new pushed history replied_to pipeline is_dropped = record {
+            runners = runners_set plan s.clients core.runners.items c z new within a.turn.stands.runners new_is;
+            logs = logs_set plan s.logs core.logs.items c (with_outcome (record { seq = x.seq; number = answer.number; pairs = answer.pairs }) (log_at s c)) log_new within_logs a.turn.stands.logs (logs_next there seq log_new same pushed);
+            switch = record { now = can.0; up = refl; shows = subst (λ (p : PlainPipeline). Shows plan.shape p can.0) (sym (same_some goes.1) ∙ sym is_dropped) goes.2 };
+            locks = locks_taken plan s core.locks c answer can.0 a.turn.stands.locks within;
+            tuples = a.turn.stands.tuples;
+            store = a.turn.stands.store;
+            history =
+                ap (λ (h : Recorded). h.items) replied_to
+                ∙ ap (λ (n : ℕ). kept.with_reply c n pairs.items core.history.items) (same ∙ seq_now)
+                ∙ ap (λ (l : List Pair). kept.with_reply c x.seq l core.history.items) reply_is
+                ∙ ap (kept.with_reply c x.seq reply) a.turn.stands.history
+                ∙ sym (facts.replies_agree plan s reached c now a.turn.stands.switch.up answer got.said reply);
+            runs = ap (λ (h : Recorded). h.runs) replied_to ∙ a.turn.stands.runs;
+            refusals = a.turn.stands.refusals;
+            refused = a.turn.stands.refused;
+            draft = a.turn.stands.draft;
           }
+
+-- a fault of an append is no idle turn
+pub fault_moves : (c : ℕ) (fault : RackFault) → turn_after c fault ≡ turns.Idle → ⊥
+fault_moves c racks.Failed e = cc
+fault_moves c racks.NoMemory e = cc
+
+module _ {plan : Plan} {core : CoreState} {c at : ℕ} {item : PlainItem} {s : State} (a : IsActionIn plan core c at item LogOutcome s) {ops : List Op} (is : item ≡ Run ops)
+    {r : Runner} (here : r ≡ get_or core.runners.items c r) {number : ℕ} {result : Option ℕ} (told : result ≡ option_map (λ box. box.number) (box_of core.pipeline c)) (some : result ≡ Some number)
+    {hot : List Pair} (given : option_map (λ box. box.pairs) (box_of core.pipeline c) ≡ Some hot) (draft : Draft) (room : HasDraftRoom draft) (outcome : PlainOutcome) (seq : ℕ) (same : seq ≡ r.state.seq)
+    (made : outcome ≡ record { seq = seq; number = number; pairs = hot }) {old new : Rack} {answered : Result (Unit {0}) RackFault} (app : IsAppend c (outcome_text outcome) old new answered) where
+  -- its outcome could not be appended
+  pub failed : (fault : RackFault) → answered ≡ Err fault → (turn : Turn) → turn ≡ turn_after c fault → IsTurnOf plan s (Client c) core (record core { draft = draft }) old new turn
+  failed fault err turn same_turn = subst (IsTurnOf plan s (Client c) core (record core { draft = draft }) old new) (sym same_turn)
+      (failed_turn plan s c (outcome_text outcome) old new answered app a.turn.within (adds a is here told some given outcome seq same made) core (record core { draft = draft }) fault err (present.stands_redrafted a.turn.stands draft room))
+
+  -- it was, and the client moved
+  pub moved : (done : Unit {0}) → answered ≡ Ok done → (pairs : Listed Pair) (items : (rows : List LayoutRow) → IsOneVisit rows ops → IsParts rows ops r.parts → pairs.items ≡ joined rows ops (found_values rows ops r.state.pairs.items) hot)
+      → {new_runner : Runner} → HasStepped plan c item (record r { state = record r.state { pairs = pairs } }) new_runner LogOutcome (Answered number) → pairs.spare ≡ r.state.pairs.spare
+      → {log : PlainRecords} (there : log ≡ get_or core.logs.items c log) (log_new : PlainRecords) → log_new ≡ record log { outcomes = log.outcomes ++ record { seq = seq; number = number; pairs = hot } ∷ [] }
+      → (history : Recorded) → history ≡ record core.history { items = kept.with_reply c seq pairs.items core.history.items } → (pipeline : PlainPipeline) → pipeline ≡ dropped core.pipeline c
+      → Moves plan s (Client c) (record core { runners = with_item core.runners c new_runner; logs = with_item core.logs c log_new; pipeline = pipeline; history = history; draft = draft }) old new
+  moved done ok pairs items has spare there log_new pushed history replied_to pipeline is_dropped =
+      let b = present.redrafted a draft room in
+      appended_turn plan s c (outcome_text outcome) old new answered app a.turn.within (adds b is here told some given outcome seq same made) (next b is here told some) _ done ok (moves_to b is here told some)
+      (stands_next b is here told some given pairs items has spare there seq same log_new pushed history replied_to pipeline is_dropped) (others b is here told some given) (longer b is here told some given outcome seq same made)

@@ -9,7 +9,6 @@ use Rattle.stage_layout.specs.declared.shape.Shape.{Shape}
 use Rattle.switch_packet.specs.PacketText.{packet_text}
 use Rattle.switch_packet.specs.Packets.{PlainIntent, PlainPacket, plain, plain_intent}
 use Rattle.switch_packet.specs.Ranges.{Fits, IsPacket}
-use Rattle.switch_packet.specs.declared.limits.TheConstants.{LONGEST_TEXT}
 use Rattle.switch_packet.specs.declared.record.Intent.{Intent}
 use Rattle.switch_packet.proofs.LengthLaws.{length-packet_text-le}
 use Rattle.switch_model.specs.Event.{post}
@@ -124,10 +123,9 @@ module _ {plan : Plan} {core : CoreState} {c at : ℕ} {item : PlainItem} {s : S
       pub packet_fits : Fits (plain intent.packet)
       packet_fits = subst Fits (sym packet_is) (packets_have_ranges plan reached.sound c x.seq (values_of x.noted) hot)
 
-      pub text_has_room : (text : Vec ℕ) → vec_len text ≡ 0 → vec_capacity text ≡ vec_capacity core.text → vec_len text + length (packet_text (plain intent.packet)) ≤ vec_capacity text
+      pub text_has_room : (text : Vec ℕ) → vec_len text ≡ 0 → vec_capacity text ≡ vec_capacity core.draft.text → vec_len text + length (packet_text (plain intent.packet)) ≤ vec_capacity text
       text_has_room text none same =
-          let most : LONGEST_TEXT ≡ 772 = refl in
-          omega (arith, length-packet_text-le (plain intent.packet) packet_fits, a.turn.stands.text, none, same, most)
+          omega (arith, length-packet_text-le (plain intent.packet) packet_fits, a.turn.stands.draft.text, none, same)
 
       -- ---- the switch
 
@@ -152,8 +150,8 @@ module _ {plan : Plan} {core : CoreState} {c at : ℕ} {item : PlainItem} {s : S
       can = some_of (post now c (packet_now plan c x)) (facts.can_post_now plan s reached c now a.turn.stands.switch.up is_logged within)
 
       pub follows : {new : Runner} (has : HasStepped plan c item r new Post Done) (pipeline : PlainPipeline) (bytes : List ℕ) (text : Vec ℕ) → bytes ≡ packet_text (plain intent.packet) → IsPacket (plain intent.packet)
-          → ((p : PlainPacket) → IsPacket p → bytes ≡ packet_text p → pipeline ≡ rows.posted core.pipeline c p) → vec_capacity text ≡ vec_capacity core.text
-          → Follows plan s (Client c) (record core { runners = with_item core.runners c new; pipeline = pipeline; text = text })
+          → ((p : PlainPacket) → IsPacket p → bytes ≡ packet_text p → pipeline ≡ rows.posted core.pipeline c p) → vec_capacity text ≡ vec_capacity core.draft.text
+          → Follows plan s (Client c) (record core { runners = with_item core.runners c new; pipeline = pipeline; draft = record core.draft { text = text } })
       unfolding posted
       follows {new} has pipeline bytes text is_text is made same = record {
         next = next;
@@ -169,8 +167,7 @@ module _ {plan : Plan} {core : CoreState} {c at : ℕ} {item : PlainItem} {s : S
           runs = a.turn.stands.runs;
           refusals = a.turn.stands.refusals;
           refused = a.turn.stands.refused;
-          packet = a.turn.stands.packet;
-          text = omega (arith, same, a.turn.stands.text);
+          draft = record { packet = a.turn.stands.draft.packet; outcome = a.turn.stands.draft.outcome; zeros = a.turn.stands.draft.zeros; text = omega (arith, same, a.turn.stands.draft.text) };
         };
       }
         where

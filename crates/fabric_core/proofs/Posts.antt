@@ -1,5 +1,5 @@
 -- A client whose packet stands in its log, and the switch, at which it has nothing under way.
-use Rattle.std.proofs.Common.{◌≡◌, ℕ, ◌<◌, true, length, Some, IsSome, inl, refl, sym, ap, subst, ◌∙◌, arith}
+use Rattle.std.proofs.Common.{◌≡◌, ℕ, ◌<◌, true, length, Some, IsSome, inl, inr, refl, sym, ap, subst, ◌∙◌, arith}
 use Rattle.switch_model.specs.Event.{post}
 use Rattle.switch_model.specs.Switch.{Switch, Desk, Vacant, Posted, Entered, desk_at}
 use Rattle.switch_model.proofs.Effects.{can_post}
@@ -53,3 +53,7 @@ module _ (plan : Plan) (s : State) (reached : IsReached plan s) (c : ℕ) (now :
   -- so it can post its packet
   pub can_post_now : c < length s.clients → IsSome (post now c (packet_now plan c x))
   can_post_now lt = can_post now c (packet_now plan c x) vacant (omega (arith, lt, desks_now))
+
+-- the packet of a client that waits has an operation in the switch
+pub has_hot_waiting : (plan : Plan) (s : State) → IsReached plan s → (c : ℕ) → (client_at s c).phase ≡ Waiting → has_hot plan (script_now plan c (client_at s c)) ≡ true
+has_hot_waiting plan s reached c waiting = (holds plan s reached).ties.hot_ones c (inr waiting)

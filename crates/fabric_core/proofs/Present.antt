@@ -34,9 +34,11 @@ use Rattle.fabric_model.specs.Step.{client_step, step}
 use Rattle.fabric_model.proofs.Present.{clients_stay, present_of}
 use Rattle.fabric_model.proofs.SmallBounds.{small_bound}
 use Rattle.fabric_model.proofs.SmallStamps.{fits_room}
-use Rattle.fabric_core.specs.Standing.{AreRunners, IsActionIn, IsRunner, IsTurnIn}
+use Rattle.fabric_core.specs.Drafts.{HasDraftRoom}
+use Rattle.fabric_core.specs.Standing.{AreRunners, IsActionIn, IsRunner, IsTurnIn, StandsFor}
 use Rattle.fabric_core.specs.Steps.{CanStep, HasStepped}
 use Rattle.fabric_core.specs.declared.core_state.CoreState.{CoreState}
+use Rattle.fabric_core.specs.declared.draft.Draft.{Draft}
 use Rattle.fabric_core.specs.declared.runner.Runner.{Runner}
 use Rattle.fabric_core.proofs.Runners.{runner_stepped, runners_set}
 
@@ -190,3 +192,32 @@ module _ {plan : Plan} {core : CoreState} {c at : ℕ} {present : PlainItem} {ac
         runners_behind =
             subst (λ (l : List ClientState). AreRunners plan l (set core.runners.items c new)) (sym clients)
             (runners_set plan s.clients core.runners.items c z new (within_clients a.turn) a.turn.stands.runners runner_behind)
+
+-- ---- with other records in the making
+
+pub stands_redrafted : {plan : Plan} {core : CoreState} {s : State} → StandsFor plan s core → (draft : Draft) → HasDraftRoom draft → StandsFor plan s (record core { draft = draft })
+stands_redrafted stands draft room = record {
+  runners = stands.runners;
+  logs = stands.logs;
+  switch = stands.switch;
+  locks = stands.locks;
+  tuples = stands.tuples;
+  store = stands.store;
+  history = stands.history;
+  runs = stands.runs;
+  refusals = stands.refusals;
+  refused = stands.refused;
+  draft = room;
+}
+
+pub redrafted : {plan : Plan} {core : CoreState} {c at : ℕ} {present : PlainItem} {action : Action} {s : State} → IsActionIn plan core c at present action s → (draft : Draft) → HasDraftRoom draft
+    → IsActionIn plan (record core { draft = draft }) c at present action s
+redrafted a draft room = record {
+  turn = record { reached = a.turn.reached; stands = stands_redrafted a.turn.stands draft room; within = a.turn.within; moves = a.turn.moves };
+  item = a.item;
+  next = a.next;
+}
+
+-- a session has at most 8 clients
+pub few_clients : {plan : Plan} {core : CoreState} {c at : ℕ} {s : State} → IsTurnIn plan core (Client c) at s → c < 8
+few_clients turn = omega (arith, turn.within, turn.reached.sound.limits.clients)

@@ -61,7 +61,7 @@ module _ {plan : Plan} {core : CoreState} {c at k : ℕ} {item : PlainItem} {s :
     is_held = ap is_some (a.turn.stands.locks op.tuple c ∙ held_last plan c x op there fit.1 fit.0 (present.distinct_now a.turn c))
 
     pub follows : {new : Runner} {locks : Locks} → IsWithLock core.locks locks op.tuple c None → HasStepped plan c item r new (Release k) Done
-        → Follows plan s (Client c) (record { runners = with_item core.runners c new; logs = core.logs; pipeline = core.pipeline; locks = locks; store = core.store; history = core.history; refusals = core.refusals; packet = core.packet; text = core.text })
+        → Follows plan s (Client c) (record { runners = with_item core.runners c new; logs = core.logs; pipeline = core.pipeline; locks = locks; store = core.store; history = core.history; refusals = core.refusals; draft = core.draft })
     unfolding released
     follows {new} {locks} with_lock has = record {
       next = released plan s c x;
@@ -77,7 +77,6 @@ module _ {plan : Plan} {core : CoreState} {c at k : ℕ} {item : PlainItem} {s :
         runs = a.turn.stands.runs;
         refusals = a.turn.stands.refusals;
         refused = a.turn.stands.refused;
-        packet = a.turn.stands.packet;
-        text = a.turn.stands.text;
+        draft = a.turn.stands.draft;
       };
     }

@@ -113,8 +113,7 @@ module _ (plan : Plan) (s : State) (core : CoreState) (stands : StandsFor plan s
     runs = stands.runs;
     refusals = stands.refusals;
     refused = stands.refused;
-    packet = stands.packet;
-    text = stands.text;
+    draft = stands.draft;
   }
 
   pub advances : (x : ℕ) (after : PlainPipeline) → advanced core.pipeline x ≡ Some after → Follows plan s (Stage x) (record core { pipeline = after })
@@ -233,8 +232,7 @@ module _ (plan : Plan) (s : State) (core : CoreState) (stands : StandsFor plan s
           runs = ap (λ (h : Recorded). h.runs) put ∙ stands.runs;
           refusals = stands.refusals;
           refused = stands.refused;
-          packet = stands.packet;
-          text = stands.text;
+          draft = stands.draft;
         };
       }
 

@@ -1,23 +1,33 @@
 -- What is known of each world, and how its moves keep that.
-use Rattle.std.proofs.Common.{◌≡◌, ℕ, ◌+◌, ◌≤◌, true, [], ◌∷◌, ◌++◌, length, length-append, unwrap_or, Option, Some, IsSome, is_some, sym, ap, subst, ◌∙◌, arith}
+use Rattle.std.proofs.Common.{◌≡◌, ◌⊎◌, ℕ, zero, suc, ◌+◌, ◌<◌, ◌≤◌, true, List, [], ◌∷◌, ◌++◌, append-nil, map, length, length-append, get_or, unwrap_or, Option, Some, None, IsTrue, is_some, inl, inr, refl, sym, ap, subst, ◌∙◌, arith}
+use Rattle.port_io.specs.Cause.{Rose}
 use Rattle.txn_model.specs.Listed.{Listed}
-use Rattle.catalogue.specs.Plan.{Plan}
+use Rattle.catalogue.specs.Plan.{Plan, PlainItem}
 use Rattle.catalogue.specs.Sound.{IsSound, IsActor}
 use Rattle.catalogue.specs.declared.actor.Actor.{Actor}
+use Rattle.catalogue.specs.declared.actor.Actor.TheVariants.{Client}
 use Rattle.fabric_model.specs.Bound.{move_bound}
 use Rattle.fabric_model.specs.Driven.{has_no_loss}
 use Rattle.fabric_model.specs.Laws.{IsReached}
 use Rattle.fabric_model.specs.Run.{opening, state_of, state_now}
-use Rattle.fabric_model.specs.State.{State}
-use Rattle.fabric_model.specs.Step.{step}
+use Rattle.fabric_model.specs.State.{State, log_at, no_records}
 use Rattle.fabric_model.proofs.Legal.{holds}
 use Rattle.fabric_model.proofs.MovesLeft.{fewer_moves, moves_bounded}
 use Rattle.fabric_model.proofs.Runs.{moves_are_the_trace, one_more}
 use Rattle.fabric_model.proofs.SmallBounds.{small_bound}
+use Rattle.fabric_core.specs.CoreTurns.{Fails, IsTurnOf, LacksMemory, Moves}
 use Rattle.fabric_core.specs.Kept.{IsKept}
+use Rattle.fabric_core.specs.Racks.{Rack}
+use Rattle.fabric_core.specs.RecordTexts.{HasStopCause, IsLogged, LogsMatch, TellsAll, text_of}
 use Rattle.fabric_core.specs.Running.{Running, state_in}
 use Rattle.fabric_core.specs.Standing.{StandsFor, IsTurnIn, Follows}
 use Rattle.fabric_core.specs.declared.core_state.CoreState.{CoreState}
+use Rattle.fabric_core.specs.Turns.{HasFailed, IsTurn}
+use Rattle.fabric_core.specs.declared.turn.Stop.{Stop}
+use Rattle.fabric_core.specs.declared.turn.Stop.TheVariants.{LogFault}
+use Rattle.fabric_core.specs.declared.turn.Turn.{Turn}
+use Rattle.fabric_core.specs.declared.turn.Turn.TheVariants.{Moved, Idle, NoMemory}
+use Rattle.fabric_core.specs.declared.turn.Turn.TheVariants as Turns
 
 -- the run of a sound session without losses
 pub record IsRun {R : Type 0} (run : Running R) : Type 0 where
@@ -25,11 +35,21 @@ pub record IsRun {R : Type 0} (run : Running R) : Type 0 where
   pub made : state_of run.plan run.trace ≡ Some (state_in run)
   pub losses : has_no_loss run.plan ≡ true
 
+-- no client has a record at the opening
+no_text : (plan : Plan) (c : ℕ) → text_of (log_at (opening plan) c) ≡ []
+unfolding opening
+no_text plan c = ap text_of (get_or-map_same plan.clients c)
+  where
+    get_or-map_same : (lists : List (List PlainItem)) (i : ℕ) → get_or (map (λ items. no_records) lists) i no_records ≡ no_records
+    get_or-map_same [] i = refl
+    get_or-map_same (x ∷ lists) zero = refl
+    get_or-map_same (x ∷ lists) (suc i) = get_or-map_same lists i
+
 -- a world that begins
-pub kept_first : (session plan : Plan) (core : CoreState) (trace : Listed Actor) → plan ≡ session → IsSound plan → has_no_loss plan ≡ true → StandsFor plan (opening plan) core → trace.items ≡ [] → move_bound plan ≤ trace.spare
-    → IsKept session plan core trace
+pub kept_first : (session plan : Plan) (faults : ℕ) (Kept : Type 0) (core : CoreState) (trace : Listed Actor) (rack : Rack) → plan ≡ session → IsSound plan → has_no_loss plan ≡ true → StandsFor plan (opening plan) core → trace.items ≡ [] → move_bound plan ≤ trace.spare
+    → (Kept → IsTrue rack.keeps) → (Kept → (c : ℕ) → c < length plan.clients → rack.told c ≡ Some []) → rack.faults ≡ faults → IsKept session plan faults Kept core trace None rack
 unfolding state_of
-kept_first session plan core trace named sound losses stands empty space =
+kept_first session plan faults Kept core trace rack named sound losses stands empty space keeps logs counted =
     let run : state_of plan trace.items ≡ Some (opening plan) = ap (state_of plan) empty in
     let now : state_now plan trace.items ≡ opening plan = ap (λ (o : Option State). unwrap_or o (opening plan)) run in
     record {
@@ -39,14 +59,15 @@ kept_first session plan core trace named sound losses stands empty space =
       run = run ∙ ap Some (sym now);
       stands = subst (λ (s : State). StandsFor plan s core) (sym now) stands;
       space = omega (arith, space);
+      logged = subst (λ (s : State). IsLogged plan s None faults Kept rack) (sym now) (record { keeps = keeps; logs = λ k c lt. logs k c lt ∙ ap Some (sym (no_text plan c)); cause = counted });
     }
 
-module _ (session plan : Plan) (core : CoreState) (trace : Listed Actor) (kept : IsKept session plan core trace) where
+module _ {session plan : Plan} {faults : ℕ} {Kept : Type 0} {core : CoreState} {trace : Listed Actor} {stop : Option Stop} {rack : Rack} (kept : IsKept session plan faults Kept core trace stop rack) where
   pub is_reached : IsReached plan (state_now plan trace.items)
   is_reached = record { sound = kept.sound; trace = trace.items; run = kept.run }
 
-  pub is_run : {R : Type 0} (rack : R) → IsRun (record { plan = plan; trace = trace.items; rack = rack })
-  is_run rack = record { reached = is_reached; made = kept.run; losses = kept.losses }
+  pub is_run : {R : Type 0} (stop : Option Stop) (rack : R) → IsRun (record { plan = plan; trace = trace.items; stop = stop; rack = rack })
+  is_run stop rack = record { reached = is_reached; made = kept.run; losses = kept.losses }
 
   -- as many moves were made as the trace has, and they are few
   pub is_short : length trace.items ≤ 2039808
@@ -64,37 +85,122 @@ module _ (session plan : Plan) (core : CoreState) (trace : Listed Actor) (kept :
   }
 
   -- where an actor moves, there is room for its move
-  pub has_room : (actor : Actor) (after : CoreState) → Follows plan (state_now plan trace.items) actor after → 1 ≤ trace.spare
-  has_room actor after follows =
+  pub has_room : (actor : Actor) (after : CoreState) (new : Rack) → Moves plan (state_now plan trace.items) actor after rack new → 1 ≤ trace.spare
+  has_room actor after new m =
       let s = state_now plan trace.items in
-      omega (arith, moves_are_the_trace plan trace.items s kept.run, moves_bounded plan (holds plan) s is_reached, fewer_moves plan (holds plan) s follows.next actor is_reached follows.step, kept.space)
+      omega (arith, moves_are_the_trace plan trace.items s kept.run, moves_bounded plan (holds plan) s is_reached, fewer_moves plan (holds plan) s m.follows.next actor is_reached m.follows.step, kept.space)
 
   -- the state behind an actor's move
-  pub moved_to : (actor : Actor) (after : CoreState) (follows : Follows plan (state_now plan trace.items) actor after) → state_of plan (trace.items ++ actor ∷ []) ≡ Some follows.next
+  moved_to : (actor : Actor) (after : CoreState) (follows : Follows plan (state_now plan trace.items) actor after) → state_of plan (trace.items ++ actor ∷ []) ≡ Some follows.next
   moved_to actor after follows = one_more plan trace.items actor (state_now plan trace.items) follows.next kept.run follows.step
 
-  -- what is kept behind an actor's move
-  pub kept_moved : (actor : Actor) (after : CoreState) (longer : Listed Actor) → Follows plan (state_now plan trace.items) actor after → longer.items ≡ trace.items ++ actor ∷ [] → longer.spare + 1 ≡ trace.spare
-      → IsKept session plan after longer
-  kept_moved actor after longer follows items spare =
-      let run : state_of plan longer.items ≡ Some follows.next = ap (state_of plan) items ∙ moved_to actor after follows in
-      let now : state_now plan longer.items ≡ follows.next = ap (λ (o : Option State). unwrap_or o (opening plan)) run in
-      record {
-        named = kept.named;
-        sound = kept.sound;
-        losses = kept.losses;
-        run = run ∙ ap Some (sym now);
-        stands = subst (λ (s : State). StandsFor plan s after) (sym now) follows.stands;
-        space = omega (arith, kept.space, spare, ap length items, length-append trace.items (actor ∷ []));
-      }
+  -- a world that has not stopped
+  module _ (goes : stop ≡ None) where
+    tells : Kept → TellsAll plan (state_now plan trace.items) rack
+    tells k = subst (λ (o : Option Stop). LogsMatch plan (state_now plan trace.items) o rack) goes (kept.logged.logs k)
 
-  -- and where it doesn't move
-  pub kept_idle : (after : CoreState) → after ≡ core → IsKept session plan after trace
-  kept_idle after same = subst (λ (k : CoreState). IsKept session plan k trace) (sym same) kept
+    counted : rack.faults ≡ faults
+    counted = subst (λ (o : Option Stop). HasStopCause plan (state_now plan trace.items) o faults rack) goes kept.logged.cause
 
--- an actor that follows a step has moved
-pub has_moved : (plan : Plan) (s : State) (actor : Actor) (after : CoreState) → Follows plan s actor after → IsSome (step plan s actor)
-has_moved plan s actor after follows = some follows.step
-  where
-    some : {o : Option State} {z : State} → o ≡ Some z → IsSome o
-    some e = ap is_some e
+    -- what is kept behind an actor's move
+    pub kept_moved : (actor : Actor) (after : CoreState) (longer : Listed Actor) (new : Rack) → Moves plan (state_now plan trace.items) actor after rack new → longer.items ≡ trace.items ++ actor ∷ [] → longer.spare + 1 ≡ trace.spare
+        → IsKept session plan faults Kept after longer stop new
+    kept_moved actor after longer new m items spare =
+        let run : state_of plan longer.items ≡ Some m.follows.next = ap (state_of plan) items ∙ moved_to actor after m.follows in
+        let now : state_now plan longer.items ≡ m.follows.next = ap (λ (o : Option State). unwrap_or o (opening plan)) run in
+        record {
+          named = kept.named;
+          sound = kept.sound;
+          losses = kept.losses;
+          run = run ∙ ap Some (sym now);
+          stands = subst (λ (s : State). StandsFor plan s after) (sym now) m.follows.stands;
+          space = omega (arith, kept.space, spare, ap length items, length-append trace.items (actor ∷ []));
+          logged = subst (λ (o : Option Stop). IsLogged plan (state_now plan longer.items) o faults Kept new) (sym goes) (subst (λ (s : State). IsLogged plan s None faults Kept new) (sym now) (record {
+            keeps = λ k. m.keeps (kept.logged.keeps k);
+            logs = λ k. m.logs (kept.logged.keeps k) (tells k);
+            cause = m.faults ∙ counted;
+          }));
+        }
+
+    -- where its record could not be appended
+    pub kept_failed : (c : ℕ) (after : CoreState) (new : Rack) → Fails plan (state_now plan trace.items) c after rack new → IsKept session plan faults Kept after trace (Some (LogFault c)) new
+    kept_failed c after new f = record {
+      named = kept.named;
+      sound = kept.sound;
+      losses = kept.losses;
+      run = kept.run;
+      stands = f.stands;
+      space = kept.space;
+      logged = record {
+        keeps = λ k. f.keeps (kept.logged.keeps k);
+        logs = λ k. f.logs (kept.logged.keeps k) (tells k);
+        cause = record { within = f.within; text = f.text; adds = f.adds; rose = subst (λ (n : ℕ). Rose n new.faults) counted f.rose };
+      };
+    }
+
+    -- where there was no memory to append it
+    pub kept_lacking : (c : ℕ) (after : CoreState) (new : Rack) → LacksMemory plan (state_now plan trace.items) c after rack new → IsKept session plan faults Kept after trace stop new
+    kept_lacking c after new l = record {
+      named = kept.named;
+      sound = kept.sound;
+      losses = kept.losses;
+      run = kept.run;
+      stands = l.stands;
+      space = kept.space;
+      logged = subst (λ (o : Option Stop). IsLogged plan (state_now plan trace.items) o faults Kept new) (sym goes) (record {
+        keeps = λ k. l.keeps (kept.logged.keeps k);
+        logs = λ k d lt. l.stays.told d ∙ tells k d lt;
+        cause = l.stays.faults ∙ counted;
+      });
+    }
+
+    -- where it can't move, or there was no memory to append it
+    pub kept_rest : (actor : Actor) (after : CoreState) (new : Rack) (turn : Turn) → IsTurnOf plan (state_now plan trace.items) actor core after rack new turn → (turn ≡ Idle) ⊎ (turn ≡ NoMemory) → (turn ≡ Idle → new ≡ rack)
+        → IsKept session plan faults Kept after trace stop new
+    kept_rest actor after new turn t (inl e) same =
+        let rests = subst (IsTurnOf plan (state_now plan trace.items) actor core after rack new) e t in
+        subst (λ (k : CoreState). IsKept session plan faults Kept k trace stop new) (sym rests.1) (subst (IsKept session plan faults Kept core trace stop) (sym (same e)) kept)
+    kept_rest actor after new turn t (inr e) same =
+        let lacks = subst (IsTurnOf plan (state_now plan trace.items) actor core after rack new) e t in
+        kept_lacking lacks.0 after new lacks.2
+
+  -- what a turn says of the run, with these racks
+  module _ {R : Type 0} (r q : R) (actor : Actor) (after : CoreState) (new : Rack) (turn : Turn) (t : IsTurnOf plan (state_now plan trace.items) actor core after rack new turn) where
+    pub moves : turn ≡ Moved → Moves plan (state_now plan trace.items) actor after rack new
+    moves e = subst (IsTurnOf plan (state_now plan trace.items) actor core after rack new) e t
+
+    pub fails : (c : ℕ) → turn ≡ Turns.LogFault c → (actor ≡ Client c) × Fails plan (state_now plan trace.items) c after rack new
+    fails c e = subst (IsTurnOf plan (state_now plan trace.items) actor core after rack new) e t
+
+    abbrev run : Running R
+    run = record { plan = plan; trace = trace.items; stop = stop; rack = r }
+
+    pub says_moved : turn ≡ Moved → (longer : List Actor) → longer ≡ trace.items ++ actor ∷ [] → IsTurn run (record { plan = plan; trace = longer; stop = stop; rack = q }) rack new actor turn
+    says_moved e longer items =
+        let m = moves e in
+        subst (IsTurn run (record { plan = plan; trace = longer; stop = stop; rack = q }) rack new actor) (sym e) (record {
+          step = ap is_some m.follows.step;
+          run = ap (λ (l : List Actor). record { plan = plan; trace = l; stop = stop; rack = q }) items;
+          faults = m.faults;
+          beyond = m.beyond;
+        })
+
+    pub says_failed : (c : ℕ) → turn ≡ Turns.LogFault c → HasFailed run (record { plan = plan; trace = trace.items; stop = Some (LogFault c); rack = q }) rack new actor c
+    says_failed c e =
+        let f = fails c e in
+        record { turn = f.0; within = f.1.within; run = refl; rose = f.1.rose; beyond = f.1.beyond }
+
+    pub says_rest : (turn ≡ Idle) ⊎ (turn ≡ NoMemory) → (turn ≡ Idle → q ≡ r) → IsTurn run (record { plan = plan; trace = trace.items; stop = stop; rack = q }) rack new actor turn
+    says_rest (inl e) same =
+        let rests = subst (IsTurnOf plan (state_now plan trace.items) actor core after rack new) e t in
+        subst (IsTurn run (record { plan = plan; trace = trace.items; stop = stop; rack = q }) rack new actor) (sym e) (rests.0, ap (λ (x : R). record { plan = plan; trace = trace.items; stop = stop; rack = x }) (same e))
+    says_rest (inr e) same =
+        let lacks = subst (IsTurnOf plan (state_now plan trace.items) actor core after rack new) e t in
+        subst (IsTurn run (record { plan = plan; trace = trace.items; stop = stop; rack = q }) rack new actor) (sym e) (record {
+          client = lacks.0;
+          turn = lacks.1;
+          text = lacks.2.text;
+          adds = lacks.2.adds;
+          run = ap (λ (l : List Actor). record { plan = plan; trace = l; stop = stop; rack = q }) (sym (append-nil trace.items));
+          stays = lacks.2.stays;
+        })

@@ -1,8 +1,14 @@
+pub mod Begun
+pub mod CoreTurns
+pub mod Drafts
 pub mod Held
 pub mod Kept
+pub mod Racks
+pub mod RecordTexts
 pub mod Running
 pub mod Slots
 pub mod Standing
 pub mod Steps
+pub mod Taken
 pub mod Turns
 pub mod Unnamed

@@ -1,10 +1,8 @@
 -- When what the code keeps of a run stands for a state of the model.
-use Rattle.std.specs.Prelude.{◌≡◌, ◌<◌, ◌≤◌, ◌+◌, ◌*◌, ◌&&◌, ℕ, List, length, not, is_some, slice_index_or, vec_capacity, Option, Some}
+use Rattle.std.specs.Prelude.{◌≡◌, ◌<◌, ◌≤◌, ◌+◌, ◌*◌, ◌&&◌, ℕ, List, length, not, is_some, slice_index_or, Option, Some}
 use Rattle.std.specs.FinMap as fin
 use Rattle.txn_model.specs.declared.op.TupleId.{TupleId}
 use Rattle.stage_layout.specs.Late.{is_hot}
-use Rattle.switch_packet.specs.Packets as packets
-use Rattle.switch_packet.specs.declared.limits.TheConstants.{LONGEST_TEXT}
 use Rattle.warm_split.specs.Parts.{IsParts}
 use Rattle.catalogue.specs.Plan.{Plan, PlainItem, item_of, items_of}
 use Rattle.catalogue.specs.Sound.{IsActor, item_count}
@@ -23,6 +21,7 @@ use Rattle.client_phase.specs.declared.action.Action.{Action}
 use Rattle.fabric_model.specs.Laws.{IsReached}
 use Rattle.fabric_model.specs.State.{Records, State, client_at, no_records}
 use Rattle.fabric_model.specs.Step.{step}
+use Rattle.fabric_core.specs.Drafts.{HasDraftRoom}
 use Rattle.fabric_core.specs.Held.{HasLocks}
 use Rattle.fabric_core.specs.declared.core_state.CoreState.{CoreState}
 use Rattle.fabric_core.specs.declared.runner.Runner.{Runner}
@@ -71,8 +70,7 @@ pub record StandsFor (plan : Plan) (s : State) (core : CoreState) : Type 0 where
   pub runs : core.history.runs ≡ runs_of plan
   pub refusals : core.refusals.items ≡ s.refusals
   pub refused : plan.tries * item_count plan ≤ length core.refusals.items + core.refusals.spare
-  pub packet : 16 ≤ packets.room_of core.packet.ops
-  pub text : LONGEST_TEXT ≤ vec_capacity core.text
+  pub draft : HasDraftRoom core.draft
 
 -- it is the turn of one of the session's actors, and the code stands for a state that is reached, behind this many moves
 pub record IsTurnIn (plan : Plan) (core : CoreState) (actor : Actor) (at : ℕ) (s : State) : Type 0 where

@@ -2,14 +2,17 @@
 //!
 //! Each move of the code is the model's: it leads to what the model's step makes of the state.
 
-ghost use Rattle.std.specs.Prelude.{◌≡◌, None, MatchBool};
+ghost use Rattle.std.specs.Prelude.{◌≡◌, MatchBool};
 ghost use Rattle.catalogue.specs.PlanOf.{plan_of};
 ghost use Rattle.catalogue.specs.declared.actor.Actor.TheVariants.{Client};
 ghost use Rattle.fabric_model.specs.State.{State};
-ghost use Rattle.fabric_model.specs.Step as model;
-ghost use Rattle.fabric_core.specs.Standing.{IsTurnIn, Follows};
+ghost use Rattle.fabric_core.specs.CoreTurns.{IsTurnOf};
+ghost use Rattle.fabric_core.specs.Racks.{seen};
+ghost use Rattle.fabric_core.specs.Standing.{IsTurnIn};
 
+use crate::draft::Draft;
 use crate::runner::Runner;
+use crate::turn::Turn;
 use catalogue::{Actor, Item, Session};
 use client_phase::Action;
 use core_model::Refusal;
@@ -18,11 +21,12 @@ use host_locks::LockTable;
 use host_store::HostStore;
 use log_records::ClientLog;
 use pipeline::Pipeline;
-use switch_packet::Packet;
+use port_io::LogRack;
+use std::alloc::Global;
 use txn_model::Items;
 
-/// The clients with their logs, the switch, the hosts, the history and the refusals; and a packet with
-/// the room for its text, in which clients make theirs.
+/// The clients with their records, the switch, the hosts, the history and the refusals; and what clients
+/// make their records in.
 #[derive(Debug, Drop)]
 pub(crate) struct CoreState {
     pub runners: Vec<Runner>,
@@ -32,51 +36,76 @@ pub(crate) struct CoreState {
     pub store: HostStore,
     pub history: History,
     pub refusals: Items<Refusal>,
-    pub packet: Packet,
-    pub text: Vec<u8>,
+    pub draft: Draft,
 }
 
 impl CoreState {
-    /// Lets an actor take its turn, behind this many moves; false where it can't move.
-    pub fn turn(&mut self, session: &Session, actor: Actor, at: u32) -> bool
+    /// Lets an actor take its turn, behind this many moves. A client's record is appended to its log before
+    /// the client moves.
+    pub fn turn<L: LogRack>(
+        &mut self,
+        alloc: Global,
+        rack: &mut L,
+        session: &Session,
+        actor: Actor,
+        at: u32,
+    ) -> Turn
         requires { (s : State) × IsTurnIn (plan_of session.now) self.old actor at s }
-        ensures { (s : State) → IsTurnIn (plan_of session.now) self.old actor at s
-            → MatchBool result (Follows (plan_of session.now) s actor self.new)
-            ((model.step (plan_of session.now) s actor ≡ None) × (self.new ≡ self.old)) }
+        ensures turn { (s : State) → IsTurnIn (plan_of session.now) self.old actor at s
+            → IsTurnOf (plan_of session.now) s actor self.old self.new (seen (L.told rack.old) (L.keeps rack.old) (L.faults rack.old)) (seen (L.told rack.new) (L.keeps rack.new) (L.faults rack.new)) result }
+        ensures idle { result ≡ Turn.Idle → rack.new ≡ rack.old }
     {
         match actor {
-            Actor::Client(client) => self.step(session, client, at),
-            Actor::Port(client) => self.enter_port(session, client),
-            Actor::Stage(stage) => self.advance(session, stage),
+            Actor::Client(client) => self.step(alloc, rack, session, client, at),
+            Actor::Port(client) => turn_if(self.enter_port(session, client)),
+            Actor::Stage(stage) => turn_if(self.advance(session, stage)),
             // The switch isn't lost.
-            Actor::Recover => false,
+            Actor::Recover => Turn::Idle,
         }
     }
 
-    /// Lets a client take its turn, behind this many moves; false where it can't move.
-    fn step(&mut self, session: &Session, client: u8, at: u32) -> bool
+    /// Lets a client take its turn, behind this many moves.
+    fn step<L: LogRack>(
+        &mut self,
+        alloc: Global,
+        rack: &mut L,
+        session: &Session,
+        client: u8,
+        at: u32,
+    ) -> Turn
         requires { (s : State) × IsTurnIn (plan_of session.now) self.old (Client client) at s }
-        ensures { (s : State) → IsTurnIn (plan_of session.now) self.old (Client client) at s
-            → MatchBool result (Follows (plan_of session.now) s (Client client) self.new)
-            ((model.step (plan_of session.now) s (Client client) ≡ None) × (self.new ≡ self.old)) }
+        ensures turn { (s : State) → IsTurnIn (plan_of session.now) self.old (Client client) at s
+            → IsTurnOf (plan_of session.now) s (Client client) self.old self.new (seen (L.told rack.old) (L.keeps rack.old) (L.faults rack.old)) (seen (L.told rack.new) (L.keeps rack.new) (L.faults rack.new)) result }
+        ensures idle { result ≡ Turn.Idle → rack.new ≡ rack.old }
     {
         let runner = &self.runners[client as usize];
         let Some(item) = session.item(client, runner.state.seq) else {
-            return false;
+            return Turn::Idle;
         };
         let Item::Run(script) = item else {
-            return false;
+            return Turn::Idle;
         };
         match runner.action(item) {
             Action::Lock(number) => self.ask(session, item, script, client, number, at),
             Action::Release(number) => self.release(session, item, script, client, number),
             Action::Decide => self.decide(session, item, client),
-            Action::LogIntent => self.log_intent(session, item, script, client),
+            Action::LogIntent => {
+                return self.log_intent(alloc, rack, session, item, script, client);
+            }
             Action::Post => self.post(session, item, client),
-            Action::LogOutcome => return self.take_answer(session, item, script, client),
+            Action::LogOutcome => {
+                return self.take_answer(alloc, rack, session, item, script, client);
+            }
             Action::Install(number) => self.install(session, item, script, client, number),
-            Action::Lose | Action::Rest => return false,
+            Action::Lose | Action::Rest => return Turn::Idle,
         }
-        true
+        Turn::Moved
     }
+}
+
+/// What became of the turn of an actor that moved, or couldn't.
+fn turn_if(moved: bool) -> Turn
+    ensures { MatchBool moved (result ≡ Turn.Moved) (result ≡ Turn.Idle) }
+{
+    if moved { Turn::Moved } else { Turn::Idle }
 }

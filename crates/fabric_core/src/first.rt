@@ -9,6 +9,7 @@ ghost use Rattle.fabric_model.specs.State.{no_records};
 ghost use Rattle.fabric_core.specs.Standing.{AreLogs, AreRunners, StandsFor};
 
 use crate::core_state::CoreState;
+use crate::draft::Draft;
 use crate::room::item_count;
 use crate::runner::Runner;
 use catalogue::Session;
@@ -18,7 +19,6 @@ use host_store::HostStore;
 use log_records::ClientLog;
 use pipeline::Pipeline;
 use std::alloc::Global;
-use switch_packet::{LONGEST_TEXT, Packet};
 use txn_model::{Items, NoMemory, TupleId, TupleMap};
 
 impl CoreState {
@@ -44,8 +44,7 @@ impl CoreState {
             store: HostStore::fresh(alloc, &TupleMap::of(alloc, rows.as_slice())?)?,
             history: History::for_session(alloc, session)?,
             refusals: Items::of(Vec::with_capacity(alloc, most)?),
-            packet: Packet::blank(alloc)?,
-            text: Vec::with_capacity(alloc, LONGEST_TEXT)?,
+            draft: Draft::fresh(alloc)?,
         })
     }
 }

@@ -30,8 +30,9 @@ impl CoreState {
     )
         requires item { plain_item item.now ≡ Run script.now.items }
         requires action { (s : State) × IsActionIn (plan_of session.now) self.old client at (plain_item item.now) (Action.Lock number) s }
-        ensures { (s : State) → IsActionIn (plan_of session.now) self.old client at (plain_item item.now) (Action.Lock number) s
+        ensures follows { (s : State) → IsActionIn (plan_of session.now) self.old client at (plain_item item.now) (Action.Lock number) s
             → Follows (plan_of session.now) s (Client client) self.new }
+        ensures logs { self.new.logs ≡ self.old.logs }
     {
         let runner = &mut self.runners[client as usize];
         let op = script.op(number);
@@ -76,8 +77,9 @@ impl CoreState {
     )
         requires item { plain_item item.now ≡ Run script.now.items }
         requires action { (s : State) × (at : ℕ) × IsActionIn (plan_of session.now) self.old client at (plain_item item.now) (Action.Release number) s }
-        ensures { (s : State) (at : ℕ) → IsActionIn (plan_of session.now) self.old client at (plain_item item.now) (Action.Release number) s
+        ensures follows { (s : State) (at : ℕ) → IsActionIn (plan_of session.now) self.old client at (plain_item item.now) (Action.Release number) s
             → Follows (plan_of session.now) s (Client client) self.new }
+        ensures logs { self.new.logs ≡ self.old.logs }
     {
         let runner = &mut self.runners[client as usize];
         let op = script.op(number);
@@ -88,8 +90,9 @@ impl CoreState {
     /// Decides the client's transaction, and puts it into the history with its reply.
     pub fn decide(&mut self, session: &Session, item: &Item, client: u8)
         requires { (s : State) × (at : ℕ) × IsActionIn (plan_of session.now) self.old client at (plain_item item.now) Action.Decide s }
-        ensures { (s : State) (at : ℕ) → IsActionIn (plan_of session.now) self.old client at (plain_item item.now) Action.Decide s
+        ensures follows { (s : State) (at : ℕ) → IsActionIn (plan_of session.now) self.old client at (plain_item item.now) Action.Decide s
             → Follows (plan_of session.now) s (Client client) self.new }
+        ensures logs { self.new.logs ≡ self.old.logs }
     {
         let runner = &mut self.runners[client as usize];
         runner.step(session, item, client, Action::Decide, Met::Done);
@@ -113,8 +116,9 @@ impl CoreState {
     )
         requires item { plain_item item.now ≡ Run script.now.items }
         requires action { (s : State) × (at : ℕ) × IsActionIn (plan_of session.now) self.old client at (plain_item item.now) (Action.Install number) s }
-        ensures { (s : State) (at : ℕ) → IsActionIn (plan_of session.now) self.old client at (plain_item item.now) (Action.Install number) s
+        ensures follows { (s : State) (at : ℕ) → IsActionIn (plan_of session.now) self.old client at (plain_item item.now) (Action.Install number) s
             → Follows (plan_of session.now) s (Client client) self.new }
+        ensures logs { self.new.logs ≡ self.old.logs }
     {
         let runner = &mut self.runners[client as usize];
         let op = script.op(number);

@@ -2,17 +2,20 @@
 //! after another.
 //!
 //! Every turn is one step of the fabric, so that the state is always what the model makes of the trace.
-//! All room is taken when a world begins; after that no call takes memory. This crate knows no thread
-//! and no text.
+//! A client's record is appended to its log before the client moves, so that the logs always say what the
+//! records do. All room is taken when a world begins; after that no call takes memory, but for what the rack
+//! takes to append. This crate knows no thread, no file and no log's text.
 #![tactic(auto)]
 
 mod core_state;
+mod draft;
 mod ends;
 mod first;
 mod host_rows;
 mod losses;
 mod name;
 mod packet_rows;
+mod resets;
 mod room;
 mod runner;
 mod turn;
@@ -22,5 +25,5 @@ pub use core_model::{ItemEnd, Refusal};
 pub use losses::has_no_loss;
 pub use name::RunName;
 pub use room::move_bound;
-pub use turn::{BeginFault, End, Turn};
+pub use turn::{BeginFault, End, Stop, Turn};
 pub use world::World;

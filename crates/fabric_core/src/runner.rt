@@ -1,15 +1,20 @@
 //! A client at its present item.
 
-ghost use Rattle.std.specs.Prelude.{◌≡◌, ◌<◌, length, IfOk, Some};
+ghost use Rattle.std.specs.Prelude.{◌≡◌, ◌≢◌, if◌then◌else◌, ◌<◌, ◌≤◌, [], length, replicate, IfOk, Some};
 ghost use Rattle.catalogue.specs.Items.{plain_item};
 ghost use Rattle.catalogue.specs.Plan.{items_of, item_of, script_at};
 ghost use Rattle.catalogue.specs.PlanOf.{plan_of};
 ghost use Rattle.catalogue.specs.Sound.{IsSound};
 ghost use Rattle.core_model.specs.State as model;
 ghost use Rattle.client_phase.specs.NextAction.{next_action};
-ghost use Rattle.client_phase.specs.Shown.{plain_client};
+ghost use Rattle.client_phase.specs.Shown.{plain_client, zero_pair};
+ghost use Rattle.client_phase.specs.Stepped.{pairs_to_fill};
+ghost use Rattle.switch_packet.specs.Packets as packets;
+ghost use Rattle.switch_packet.specs.Packets.{plain};
+ghost use Rattle.warm_split.specs.Filled.{AreExecuted};
 ghost use Rattle.warm_split.specs.Parts.{IsParts};
-ghost use Rattle.warm_split.specs.Sides.{IsOneVisit};
+ghost use Rattle.warm_split.specs.Resolved.{packet_of};
+ghost use Rattle.warm_split.specs.Sides.{HasPlaces, IsOneVisit, found_values, hot_ops};
 ghost use Rattle.client_phase.specs.Fits.{Fits, HasNoFault};
 ghost use Rattle.fabric_core.specs.Standing.{IsRunner};
 ghost use Rattle.fabric_core.specs.Steps.{CanStep, HasStepped};
@@ -17,8 +22,9 @@ ghost use Rattle.fabric_core.specs.Steps.{CanStep, HasStepped};
 use catalogue::{Item, Session};
 use client_phase::{Action, ClientState, Met, action_of, step_client};
 use std::alloc::Global;
-use txn_model::{NoMemory, Script};
-use warm_split::{OpSet, Parts, split};
+use switch_packet::Packet;
+use txn_model::{NoMemory, Pair, Pairs, Script};
+use warm_split::{OpSet, Parts, resolve, split};
 
 /// What is kept of a client, and where the operations of its present script are executed; no operations
 /// where its present item is no transaction.
@@ -71,6 +77,62 @@ impl Runner {
         if self.state.seq != seq {
             self.parts = parts_of(session, client, self.state.seq);
         }
+    }
+
+    /// Makes the packet of the client's present script, for which it has all its locks.
+    pub fn resolve(
+        &self,
+        session: &Session,
+        script: &Script,
+        client: u8,
+        zeros: &mut Pairs,
+        to: &mut Packet,
+    )
+        requires visit { IsOneVisit (plan_of session.now).layout script.now.items }
+        requires sets { IsParts (plan_of session.now).layout script.now.items self.now.parts }
+        requires hot { hot_ops (plan_of session.now).layout script.now.items ≢ [] }
+        requires places { HasPlaces (plan_of session.now).shape (plan_of session.now).layout script.now.items }
+        requires filled { AreExecuted self.now.parts.before script.now.items (pairs_to_fill (length script.now.items) (plain_client self.now.state)) }
+        requires zeros { 16 ≤ packets.room_of zeros.old }
+        requires room { 16 ≤ packets.room_of to.old.ops }
+        requires few { length script.now.items ≤ 16 }
+        ensures packet { plain to.new ≡ packet_of (plan_of session.now).shape (plan_of session.now).layout client self.now.state.seq script.now.items
+            (found_values (plan_of session.now).layout script.now.items (pairs_to_fill (length script.now.items) (plain_client self.now.state))) }
+        ensures zeros { packets.room_of zeros.new ≡ packets.room_of zeros.old }
+        ensures room { packets.room_of to.new.ops ≡ packets.room_of to.old.ops }
+    {
+        let state = &self.state;
+        make_zeros(script.len() as u8, zeros);
+        let pairs = pick(state.locked == 0, zeros, &state.pairs);
+        resolve(
+            &session.shape,
+            &session.layout,
+            script,
+            &self.parts,
+            client,
+            state.seq,
+            pairs,
+            to,
+        );
+    }
+}
+
+/// The first of them where it is that one, else the second.
+fn pick<'a>(is_first: bool, first: &'a Pairs, second: &'a Pairs) -> &'a Pairs
+    ensures { result.now ≡ (if is_first then first.now else second.now) }
+{
+    if is_first { first } else { second }
+}
+
+/// Makes it this many pairs of zeros, in the room that the pairs have.
+fn make_zeros(len: u8, pairs: &mut Pairs)
+    requires room { len ≤ packets.room_of pairs.old }
+    ensures items { pairs.new.items ≡ replicate len zero_pair }
+    ensures room { packets.room_of pairs.new ≡ packets.room_of pairs.old }
+{
+    pairs.clear();
+    for _ in 0..len {
+        pairs.push(Pair::ZERO);
     }
 }
 

@@ -1,5 +1,9 @@
 //! What calls of a world answer.
 
+ghost use Rattle.std.specs.Prelude.{◌≡◌};
+ghost use Rattle.fabric_core.specs.Taken.{end_with};
+ghost use Rattle.fabric_core.specs.Turns.{end_of};
+
 /// What became of an actor's turn.
 #[derive(Clone, Copy, Debug, PartialEq, Eq)]
 pub enum Turn {
@@ -7,6 +11,11 @@ pub enum Turn {
     Moved,
     /// It can't move now, and nothing changed.
     Idle,
+    /// The record of this client, whose turn it was, could not be appended to its log: the rack counted a
+    /// failure. State and trace stay, and the world has stopped.
+    LogFault(u8),
+    /// No memory was left to append a record. State, logs and trace stay.
+    NoMemory,
 }
 
 /// How a run ended.
@@ -14,11 +23,56 @@ pub enum Turn {
 pub enum End {
     /// No client has anything left to do.
     Finished,
+    /// The world has stopped, since a record of this client could not be appended.
+    LogFault(u8),
+    /// No memory was left to append a record. The turns before that stand, and the run can go on.
+    NoMemory,
+}
+
+/// Why a world takes no more turns.
+#[derive(Clone, Copy, Debug, PartialEq, Eq)]
+pub enum Stop {
+    /// A record of this client could not be appended.
+    LogFault(u8),
 }
 
 /// Why no world began.
 #[derive(Clone, Copy, Debug, PartialEq, Eq)]
 pub enum BeginFault {
-    /// Memory ran out.
+    /// The log of this client could not be emptied: the rack counted a failure.
+    LogFault(u8),
+    /// Memory ran out, and the rack is as it was.
     NoMemory,
+}
+
+/// Why turns that were to be taken one after another end early.
+#[derive(Clone, Copy, Debug, PartialEq, Eq)]
+pub(crate) enum Halt {
+    /// The world has stopped, since a record of this client could not be appended.
+    LogFault(u8),
+    /// No memory was left to append a record.
+    NoMemory,
+}
+
+impl Stop {
+    /// How a run ends of a world that has stopped so.
+    pub(crate) fn end(self) -> End
+        ensures { result ≡ end_of self }
+    {
+        match self {
+            Stop::LogFault(client) => End::LogFault(client),
+        }
+    }
+}
+
+impl Halt {
+    /// How a run ends whose turns ended so.
+    pub fn end(self) -> End
+        ensures { result ≡ end_with self }
+    {
+        match self {
+            Halt::LogFault(client) => End::LogFault(client),
+            Halt::NoMemory => End::NoMemory,
+        }
+    }
 }

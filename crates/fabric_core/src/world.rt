@@ -1,6 +1,6 @@
 //! Worlds.
 
-ghost use Rattle.std.specs.Prelude.{◌≡◌, ◌↔◌, ◌<◌, ◌≤◌, [], ◌∷◌, true, false, length, map, reverse, All, IfOk, IfErr, IsSome, IsTrue, Some};
+ghost use Rattle.std.specs.Prelude.{ℕ, ◌≡◌, ◌↔◌, ◌<◌, ◌≤◌, [], ◌∷◌, true, false, length, map, reverse, All, IfOk, IfErr, IsSome, IsTrue, Some, None};
 ghost use Rattle.std.specs.FinMap.{get};
 ghost use Rattle.std.specs.List.{list_all};
 ghost use Rattle.catalogue.specs.Plan.{item_of};
@@ -16,17 +16,22 @@ ghost use Rattle.fabric_model.specs.Rota.{driven_from};
 ghost use Rattle.fabric_model.specs.Run.{opening, state_of};
 ghost use Rattle.fabric_model.specs.State.{client_at};
 ghost use Rattle.history_core.specs.Runs.{runs_of};
-ghost use Rattle.fabric_core.specs.Running.{state_in, taken, with_moves};
+ghost use Rattle.fabric_core.specs.Begun.{IsNotReset};
+ghost use Rattle.fabric_core.specs.Racks.{seen, StaysFrom};
+ghost use Rattle.fabric_core.specs.RecordTexts.{LogsMatch, HasStopCause};
+ghost use Rattle.fabric_core.specs.Running.{state_in};
 ghost use Rattle.fabric_core.specs.Slots.{slot_now};
 ghost use Rattle.fabric_core.specs.Standing.{StandsFor};
-ghost use Rattle.fabric_core.specs.Turns.{IsTurn};
+ghost use Rattle.fabric_core.specs.Taken.{IsTaken, IsTakenOn};
+ghost use Rattle.fabric_core.specs.Turns.{IsTurn, IsEnd};
 
 use crate::core_state::CoreState;
 use crate::ends::{loss_end, script_end};
 use crate::name::RunName;
+use crate::resets::reset_logs;
 use crate::room::move_bound;
 use crate::runner::Runner;
-use crate::turn::{BeginFault, End, Turn};
+use crate::turn::{BeginFault, End, Halt, Stop, Turn};
 use catalogue::{Actor, Actors, Item, Session};
 use core_model::{ItemEnd, Phase, Refusal};
 use history_core::History;
@@ -35,15 +40,18 @@ use std::alloc::Global;
 use std::marker::{Model, PhantomData};
 use txn_model::{Items, NoMemory, TupleId};
 
-/// A run that has begun: its session, and the state that the moves so far have made.
+/// A run that has begun: its session, the state that the moves so far have made, and the clients' logs.
 ///
 /// The name is a part of the type, so that a world that comes back from elsewhere is still a run of the
-/// same session. The logs are kept for the caller, and not used yet: records are kept in memory alone.
+/// same session. Where the rack kept when the run began, each client's log is told as the text of its
+/// records. Once a record could not be appended the world has stopped: only the log of that client may
+/// then go on, with a front of that record's text.
 #[derive(Drop)]
 pub struct World<L: LogRack, N: RunName> {
     session: Session,
     core: CoreState,
     trace: Actors,
+    stop: Option<Stop>,
     rack: L,
     of: PhantomData<N>,
 }
@@ -51,22 +59,26 @@ pub struct World<L: LogRack, N: RunName> {
 impl<L: LogRack, N: RunName> Model for World<L, N> {
     ghost use Rattle.catalogue.specs.PlanOf.{plan_of};
     ghost use Rattle.fabric_core.specs.Kept.{IsKept};
+    ghost use Rattle.fabric_core.specs.Racks.{seen};
     ghost use Rattle.fabric_core.specs.Running.{Running};
     ghost use Rattle.std.specs.Coded.{codes};
+    ghost use Rattle.std.specs.Prelude.{IsTrue};
     ghost use Rattle.txn_model.specs.Tuples.{tuples_code};
 
     ghost Value = { Running L };
 
     ghost coded = { Prim.hlevel (codes, tuples_code) };
 
-    ghost view = { λ a. record { plan = plan_of a.session; trace = a.trace.items; rack = a.rack } };
+    ghost view = { λ a. record { plan = plan_of a.session; trace = a.trace.items; stop = a.stop; rack = a.rack } };
 
-    ghost invariant = { λ a. IsKept N.session (plan_of a.session) a.core a.trace };
+    ghost invariant = { λ a. IsKept N.session (plan_of a.session) N.faults (IsTrue N.kept) a.core a.trace a.stop (seen (L.told a.rack) (L.keeps a.rack) (L.faults a.rack)) };
 }
 
 impl<L: LogRack, N: RunName> World<L, N> {
-    /// Takes all room that the run of a session needs: after this no call of the world takes memory. Today no
-    /// item of the session loses the switch. After a fault the logs are handed back.
+    /// Takes all room that the run of a session needs, and then empties the logs of its clients in order.
+    /// After this no call of the world takes memory, but for what its rack takes to append. Today no item of
+    /// the session loses the switch. After a fault the logs are handed back; where memory ran out, as they
+    /// were.
     pub fn begin(alloc: Global, session: Session, rack: L) -> Result<World<L, N>, (L, BeginFault)>
         requires sound { IsSound (plan_of session) }
         requires losses { has_no_loss (plan_of session) ≡ true }
@@ -75,116 +87,164 @@ impl<L: LogRack, N: RunName> World<L, N> {
         requires named { plan_of session ≡ N.session }
         requires faults { L.faults rack ≡ N.faults }
         requires kept { L.keeps rack ≡ N.kept }
-        ensures begun { IfOk result (λ world. world ≡ record { plan = plan_of session; trace = []; rack = rack }) }
-        ensures rack { IfErr result (λ err. err.0 ≡ rack) }
+        ensures begun { IfOk result (λ world. world ≡ record { plan = plan_of session; trace = []; stop = None; rack = world.rack }) }
+        ensures counted { IfOk result (λ world. L.faults world.rack ≡ L.faults rack) }
+        ensures beyond { IfOk result (λ world. StaysFrom (length (plan_of session).clients) (seen (L.told rack) (L.keeps rack) (L.faults rack)) (seen (L.told world.rack) (L.keeps world.rack) (L.faults world.rack))) }
+        ensures no_memory { IfErr result (λ err. err.1 ≡ BeginFault.NoMemory → err.0 ≡ rack) }
+        ensures log_fault { IfErr result (λ err. (c : ℕ) → err.1 ≡ BeginFault.LogFault c
+            → IsNotReset (length (plan_of session).clients) (seen (L.told rack) (L.keeps rack) (L.faults rack)) (seen (L.told err.0) (L.keeps err.0) (L.faults err.0)) c) }
     {
-        match room_of(alloc, &session) {
-            Ok((core, trace)) => Ok(World {
-                session,
-                core,
-                trace,
-                rack,
-                of: PhantomData,
-            }),
-            Err(NoMemory) => Err((rack, BeginFault::NoMemory)),
+        let (core, trace) = match room_of(alloc, &session) {
+            Ok(room) => room,
+            Err(NoMemory) => return Err((rack, BeginFault::NoMemory)),
+        };
+        let mut rack = rack;
+        if let Err(client) = reset_logs(&mut rack, session.clients()) {
+            return Err((rack, BeginFault::LogFault(client)));
         }
+        Ok(World {
+            session,
+            core,
+            trace,
+            stop: None,
+            rack,
+            of: PhantomData,
+        })
     }
 
-    /// Lets an actor of the session take its turn.
-    pub fn turn(&mut self, actor: Actor) -> Turn
-        requires { IsActor self.old.plan actor }
-        ensures { IsTurn self.old self.new actor result }
+    /// Lets an actor of the session take its turn. A client's record stands in its log before the client
+    /// moves.
+    pub fn turn(&mut self, alloc: Global, actor: Actor) -> Turn
+        requires actor { IsActor self.old.plan actor }
+        requires goes_on { self.old.stop ≡ None }
+        ensures { IsTurn self.old self.new (seen (L.told self.old.rack) (L.keeps self.old.rack) (L.faults self.old.rack)) (seen (L.told self.new.rack) (L.keeps self.new.rack) (L.faults self.new.rack)) actor result }
     {
         let at = self.trace.len() as u32;
-        if !self.core.turn(&self.session, actor, at) {
-            return Turn::Idle;
+        let turn = self
+            .core
+            .turn(alloc, &mut self.rack, &self.session, actor, at);
+        match turn {
+            Turn::Moved => self.trace.push(actor),
+            Turn::LogFault(client) => self.stop = Some(Stop::LogFault(client)),
+            Turn::Idle | Turn::NoMemory => {}
         }
-        self.trace.push(actor);
-        Turn::Moved
+        turn
     }
 
     /// Lets the actors take their turns in order, and then the rota again and again, until no client has
-    /// anything left to do.
-    pub fn run(&mut self, actors: &[Actor]) -> End
+    /// anything left to do, or a turn has a fault. A world that has stopped stays as it is.
+    pub fn run(&mut self, alloc: Global, actors: &[Actor]) -> End
         requires { All (IsActor self.old.plan) actors.now }
-        ensures moves { self.new ≡ with_moves self.old (driven_from self.old.plan (state_in self.old) actors.now) }
-        ensures finished { IsFinished (state_in self.new) }
+        ensures { IsEnd self.old self.new (seen (L.told self.old.rack) (L.keeps self.old.rack) (L.faults self.old.rack)) (seen (L.told self.new.rack) (L.keeps self.new.rack) (L.faults self.new.rack))
+            (driven_from self.old.plan (state_in self.old) actors.now) result }
     {
-        // Opened for what is true of each world.
-        let _ = &self.session;
-        self.take_all(actors);
-        self.finish()
+        if let Some(stop) = self.stop {
+            return stop.end();
+        }
+        match self.take_all(alloc, actors) {
+            Ok(()) => self.finish(alloc),
+            Err(halt) => halt.end(),
+        }
     }
 
     /// Lets the actors of the rota take their turns again and again, until no client has anything left to
-    /// do.
-    pub fn finish(&mut self) -> End
-        ensures moves { self.new ≡ with_moves self.old (driven_from self.old.plan (state_in self.old) []) }
-        ensures finished { IsFinished (state_in self.new) }
+    /// do, or a turn has a fault. A world that has stopped stays as it is.
+    pub fn finish(&mut self, alloc: Global) -> End
+        ensures { IsEnd self.old self.new (seen (L.told self.old.rack) (L.keeps self.old.rack) (L.faults self.old.rack)) (seen (L.told self.new.rack) (L.keeps self.new.rack) (L.faults self.new.rack))
+            (driven_from self.old.plan (state_in self.old) []) result }
+    {
+        if let Some(stop) = self.stop {
+            return stop.end();
+        }
+        match self.take_rotas(alloc) {
+            Ok(()) => End::Finished,
+            Err(halt) => halt.end(),
+        }
+    }
+
+    /// Takes rotas until no client has anything left to do, or a turn has a fault.
+    fn take_rotas(&mut self, alloc: Global) -> Result<(), Halt>
+        requires { self.old.stop ≡ None }
+        ensures { IsTakenOn self.old self.new (seen (L.told self.old.rack) (L.keeps self.old.rack) (L.faults self.old.rack)) (seen (L.told self.new.rack) (L.keeps self.new.rack) (L.faults self.new.rack)) result }
     {
         // Opened for what is true of each world.
         let _ = &self.session;
         'rounds: while !self.finished() {
-            self.take_rota();
+            self.take_rota(alloc)?;
         }
-        End::Finished
+        Ok(())
     }
 
     /// Lets all actors take their turns once: recovery, the clients, their ports, and the stages from the
     /// last to the first.
-    fn take_rota(&mut self)
-        ensures { self.new ≡ taken self.old (rota self.old.plan) }
+    fn take_rota(&mut self, alloc: Global) -> Result<(), Halt>
+        requires { self.old.stop ≡ None }
+        ensures { IsTaken self.old self.new (seen (L.told self.old.rack) (L.keeps self.old.rack) (L.faults self.old.rack)) (seen (L.told self.new.rack) (L.keeps self.new.rack) (L.faults self.new.rack)) (rota self.old.plan) result }
     {
         // Opened for what is true of each world.
         let _ = &self.session;
-        self.take(Actor::Recover);
-        self.take_clients();
-        self.take_ports();
-        self.take_stages();
+        self.take(alloc, Actor::Recover)?;
+        self.take_clients(alloc)?;
+        self.take_ports(alloc)?;
+        self.take_stages(alloc)
     }
 
-    fn take_clients(&mut self)
-        ensures { self.new ≡ taken self.old (map Client (numbers_below (length self.old.plan.clients))) }
+    fn take_clients(&mut self, alloc: Global) -> Result<(), Halt>
+        requires { self.old.stop ≡ None }
+        ensures { IsTaken self.old self.new (seen (L.told self.old.rack) (L.keeps self.old.rack) (L.faults self.old.rack)) (seen (L.told self.new.rack) (L.keeps self.new.rack) (L.faults self.new.rack)) (map Client (numbers_below (length self.old.plan.clients))) result }
     {
         for client in 0..self.session.clients() {
-            self.take(Actor::Client(client));
+            self.take(alloc, Actor::Client(client))?;
         }
+        Ok(())
     }
 
-    fn take_ports(&mut self)
-        ensures { self.new ≡ taken self.old (map Port (numbers_below (length self.old.plan.clients))) }
+    fn take_ports(&mut self, alloc: Global) -> Result<(), Halt>
+        requires { self.old.stop ≡ None }
+        ensures { IsTaken self.old self.new (seen (L.told self.old.rack) (L.keeps self.old.rack) (L.faults self.old.rack)) (seen (L.told self.new.rack) (L.keeps self.new.rack) (L.faults self.new.rack)) (map Port (numbers_below (length self.old.plan.clients))) result }
     {
         for client in 0..self.session.clients() {
-            self.take(Actor::Port(client));
+            self.take(alloc, Actor::Port(client))?;
         }
+        Ok(())
     }
 
-    fn take_stages(&mut self)
-        ensures { self.new ≡ taken self.old (map Stage (reverse (numbers_below self.old.plan.shape.stages))) }
+    fn take_stages(&mut self, alloc: Global) -> Result<(), Halt>
+        requires { self.old.stop ≡ None }
+        ensures { IsTaken self.old self.new (seen (L.told self.old.rack) (L.keeps self.old.rack) (L.faults self.old.rack)) (seen (L.told self.new.rack) (L.keeps self.new.rack) (L.faults self.new.rack)) (map Stage (reverse (numbers_below self.old.plan.shape.stages))) result }
     {
         for stage in (0..self.session.shape.stages).rev() {
-            self.take(Actor::Stage(stage));
+            self.take(alloc, Actor::Stage(stage))?;
         }
+        Ok(())
     }
 
-    fn take_all(&mut self, actors: &[Actor])
-        requires { All (IsActor self.old.plan) actors.now }
-        ensures { self.new ≡ taken self.old actors.now }
+    fn take_all(&mut self, alloc: Global, actors: &[Actor]) -> Result<(), Halt>
+        requires actors { All (IsActor self.old.plan) actors.now }
+        requires goes_on { self.old.stop ≡ None }
+        ensures { IsTaken self.old self.new (seen (L.told self.old.rack) (L.keeps self.old.rack) (L.faults self.old.rack)) (seen (L.told self.new.rack) (L.keeps self.new.rack) (L.faults self.new.rack)) actors.now result }
     {
         // Opened for what is true of each world.
         let _ = &self.session;
         for actor in actors {
-            self.take(*actor);
+            self.take(alloc, *actor)?;
         }
+        Ok(())
     }
 
     /// Lets an actor take its turn, unless no client has anything left to do.
-    fn take(&mut self, actor: Actor)
-        requires { IsActor self.old.plan actor }
-        ensures { self.new ≡ taken self.old (actor ∷ []) }
+    fn take(&mut self, alloc: Global, actor: Actor) -> Result<(), Halt>
+        requires actor { IsActor self.old.plan actor }
+        requires goes_on { self.old.stop ≡ None }
+        ensures { IsTaken self.old self.new (seen (L.told self.old.rack) (L.keeps self.old.rack) (L.faults self.old.rack)) (seen (L.told self.new.rack) (L.keeps self.new.rack) (L.faults self.new.rack)) (actor ∷ []) result }
     {
-        if !self.finished() {
-            let _ = self.turn(actor);
+        if self.finished() {
+            return Ok(());
+        }
+        match self.turn(alloc, actor) {
+            Turn::Moved | Turn::Idle => Ok(()),
+            Turn::LogFault(client) => Err(Halt::LogFault(client)),
+            Turn::NoMemory => Err(Halt::NoMemory),
         }
     }
 
@@ -270,9 +330,19 @@ impl<L: LogRack, N: RunName> World<L, N> {
         self.core.pipeline.slot(stage)
     }
 
+    /// Why no more turns are taken; None where no turn had a fault of its log.
+    pub fn stop(&self) -> Option<Stop>
+        ensures stop { result ≡ self.now.stop }
+        ensures cause { HasStopCause self.now.plan (state_in self.now) self.now.stop N.faults (seen (L.told self.now.rack) (L.keeps self.now.rack) (L.faults self.now.rack)) }
+    {
+        self.stop
+    }
+
     /// The logs.
     pub fn into_rack(self) -> L
-        ensures { result ≡ self.rack }
+        ensures rack { result ≡ self.rack }
+        ensures keeps { IsTrue N.kept → IsTrue (L.keeps self.rack) }
+        ensures logs { IsTrue N.kept → LogsMatch self.plan (state_in self) self.stop (seen (L.told self.rack) (L.keeps self.rack) (L.faults self.rack)) }
     {
         self.rack
     }

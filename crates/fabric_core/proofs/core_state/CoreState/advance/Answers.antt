@@ -5,13 +5,13 @@ use Rattle.pipeline.specs.Rows.{advanced}
 use Rattle.fabric_core.proofs.SwitchShown.{advances, stays, was_idle, was_made}
 use Rattle.fabric_core.proofs.core_state.CoreState.advance.Goals as goal
 
-pub returns-in-Moved : goal.returns-in-Moved
-returns-in-Moved c s at turn =
+pub returns-in-Moved-clause-turn : goal.returns-in-Moved-clause-turn
+returns-in-Moved-clause-turn c s at turn =
     let core = c.args.self.now in
     advances (plan_of c.args.session.now) s core turn.stands turn.reached c.args.stage c.advance.new.self (was_made (advanced core.pipeline c.args.stage) core.pipeline c.advance.new.self c.advance.result c.advance.ensures c.in-Moved.is)
 
-pub returns-in_default : goal.returns-in_default
-returns-in_default c s at turn =
+pub returns-in_default-clause-turn : goal.returns-in_default-clause-turn
+returns-in_default-clause-turn c s at turn =
     let core = c.args.self.now in
     let idle = was_idle (advanced core.pipeline c.args.stage) core.pipeline c.advance.new.self c.advance.result c.advance.ensures c.in_default.not-Moved in
     (stays (plan_of c.args.session.now) s core turn.stands turn.reached c.args.stage idle.0, ap (λ (p : PlainPipeline). record core { pipeline = p }) idle.1)

@@ -31,8 +31,8 @@ step-requires-clause-item c = present.item_kept c.requires.action.1 c.index_mut-
 pub step-requires-clause-step : goal.step-requires-clause-step
 step-requires-clause-step c = present.can_step c.requires.action.1 c.index_mut-runner.ensures.value (Met.Granted c.read-seen.result) tt
 
-pub returns-in-Granted : goal.returns-in-Granted
-returns-in-Granted c s a =
+pub returns-in-Granted-clause-follows : goal.returns-in-Granted-clause-follows
+returns-in-Granted-clause-follows c s a =
     let tried = asks.tried_as c.args.self.now.locks c.try_lock.new.self c.op-op.result c.args.client c.mode_of.result c.try_lock.result Granted c.mode_of.ensures c.in-Granted.is c.try_lock.ensures in
     let here = c.index_mut-runner.ensures.value in
     record {
@@ -41,8 +41,8 @@ returns-in-Granted c s a =
       stands = asks.granted_stands a c.requires.item here c.op-op.ensures tried c.read-seen.ensures c.step.ensures;
     }
 
-pub returns-in-HeldBy : goal.returns-in-HeldBy
-returns-in-HeldBy c s a =
+pub returns-in-HeldBy-clause-follows : goal.returns-in-HeldBy-clause-follows
+returns-in-HeldBy-clause-follows c s a =
     let tried = asks.tried_as c.args.self.now.locks c.try_lock.new.self c.op-op.result c.args.client c.mode_of.result c.try_lock.result (HeldBy c.in-HeldBy.holder) c.mode_of.ensures c.in-HeldBy.is c.try_lock.ensures in
     let here = c.index_mut-runner.ensures.value in
     record {

@@ -25,5 +25,5 @@ answer-requires-clause-last c = decides.is_last c.requires.2 c.index_mut-runner.
 pub answer-requires-clause-pairs : goal.answer-requires-clause-pairs
 answer-requires-clause-pairs c = decides.has_pairs c.requires.2 c.index_mut-runner.ensures.value c.step.ensures c.insert.ensures
 
-pub returns : goal.returns
-returns c s at a = decides.follows a c.index_mut-runner.ensures.value c.step.ensures c.insert.ensures c.answer.ensures
+pub returns-clause-follows : goal.returns-clause-follows
+returns-clause-follows c s at a = decides.follows a c.index_mut-runner.ensures.value c.step.ensures c.insert.ensures c.answer.ensures

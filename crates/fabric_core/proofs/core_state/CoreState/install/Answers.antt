@@ -27,8 +27,8 @@ step-requires-clause-item c = present.item_kept c.requires.action.2 c.index_mut-
 pub step-requires-clause-step : goal.step-requires-clause-step
 step-requires-clause-step c = present.can_step c.requires.action.2 c.index_mut-runner.ensures.value Done refl
 
-pub returns : goal.returns
-returns c s at a =
+pub returns-clause-follows : goal.returns-clause-follows
+returns-clause-follows c s at a =
     let fits : SFits w64 c.get-pair.result.now = search rules in
     let put = ap (λ (v : ℤ). installed c.args.self.now.store c.op-op.result.tuple v c.index_mut-runner.result.now.state.last) (to_z-of_z w64 c.get-pair.result.now fits) in
     installs.follows a c.requires.item c.index_mut-runner.ensures.value c.op-op.ensures c.get-pair.ensures c.unlock.ensures (c.install.ensures ∙ put) c.step.ensures

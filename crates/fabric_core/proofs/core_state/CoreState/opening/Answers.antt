@@ -36,6 +36,5 @@ returns c =
       runs = ap (λ (h : Recorded). h.runs) c.in_ok-for_session.ensures;
       refusals = c.of-2.ensures.items ∙ c.in_ok-with_capacity.ensures.items;
       refused = omega (arith, c.of-2.ensures.spare, c.in_ok-with_capacity.ensures.capacity, c.in_ok-with_capacity.ensures.len, ap (λ (n : ℕ). n * item_count plan) c.from.ensures, ap (λ (n : ℕ). c.from.result * n) c.item_count.ensures);
-      packet = omega (arith, c.in_ok-blank.ensures.room);
-      text = omega (arith, c.in_ok-with_capacity-2.ensures.capacity);
+      draft = c.in_ok-fresh-4.ensures;
     }

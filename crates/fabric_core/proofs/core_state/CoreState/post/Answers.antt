@@ -32,7 +32,7 @@ post-requires c =
     postings.is_posting c.requires.action.2 c.index_mut.ensures.value c.index.ensures c.last_intent-intent.result.now c.last_intent-intent.ensures c.as_slice.result.now
     (c.as_slice.ensures.value ∙ c.encode_into.ensures.added.items ∙ ap (λ (l : List ℕ). l ++ packet_text (plain c.last_intent-intent.result.now.packet)) c.clear.ensures.items) c.encode_into.ensures.is_packet
 
-pub returns : goal.returns
-returns c s at a =
+pub returns-clause-follows : goal.returns-clause-follows
+returns-clause-follows c s at a =
     postings.follows a c.index_mut.ensures.value c.index.ensures c.last_intent-intent.result.now c.last_intent-intent.ensures c.step.ensures c.post.new.self c.as_slice.result.now c.encode_into.new.to
     (c.as_slice.ensures.value ∙ c.encode_into.ensures.added.items ∙ ap (λ (l : List ℕ). l ++ packet_text (plain c.last_intent-intent.result.now.packet)) c.clear.ensures.items) c.encode_into.ensures.is_packet c.post.ensures (c.encode_into.ensures.added.capacity ∙ c.clear.ensures.capacity)

@@ -19,5 +19,5 @@ step-requires-clause-item c = present.item_kept c.requires.action.2 c.index_mut-
 pub step-requires-clause-step : goal.step-requires-clause-step
 step-requires-clause-step c = present.can_step c.requires.action.2 c.index_mut-runner.ensures.value Done refl
 
-pub returns : goal.returns
-returns c s at a = releases.follows a c.requires.item c.index_mut-runner.ensures.value c.op-op.ensures c.unlock.ensures c.step.ensures
+pub returns-clause-follows : goal.returns-clause-follows
+returns-clause-follows c s at a = releases.follows a c.requires.item c.index_mut-runner.ensures.value c.op-op.ensures c.unlock.ensures c.step.ensures

@@ -1,17 +1,16 @@
-use Rattle.std.proofs.Common.{refl, subst}
+use Rattle.std.proofs.Common.{ap, sym, ◌∙◌}
 use Rattle.fabric_core.specs.Running.{Running}
-use Rattle.fabric_core.proofs.Takes.{driving_round, driving_lessens, driving_ends}
-use Rattle.fabric_core.proofs.Worlds.{IsRun, is_run}
+use Rattle.fabric_core.proofs.Takes as takes
 use Rattle.fabric_core.proofs.world.World.finish.Goals as goal
 
-pub rounds-init : goal.rounds-init
-rounds-init g c = record { run = subst (λ (r : Running _). IsRun r) c.self.view_is (is_run _ _ _ _ c.self.invariant c.self.inside.rack); whole = refl }
+pub returns-in-Some : goal.returns-in-Some
+returns-in-Some g c = takes.ended_before c.args.self.now _ _ c.in-Some.stop c.end.result (sym (ap (λ (r : Running _). r.stop) c.self.view_is) ∙ c.in-Some.is) c.end.ensures
 
-pub rounds-smaller : goal.rounds-smaller
-rounds-smaller g c = driving_lessens c.rounds.self c.take_rota.new.self c.finished.result c.rounds.invariant.run c.finished.ensures c.rounds-test.true c.take_rota.ensures
+pub take_rotas-requires : goal.take_rotas-requires
+take_rotas-requires g c = (sym (ap (λ (r : Running _). r.stop) c.self.view_is) ∙ c.in_default.is)
 
-pub rounds-preserved : goal.rounds-preserved
-rounds-preserved g c = driving_round c.args.self.now c.rounds.self c.take_rota.new.self c.finished.result c.rounds.invariant c.finished.ensures c.rounds-test.true c.take_rota.ensures
+pub returns-in-Ok : goal.returns-in-Ok
+returns-in-Ok g c = takes.ended_on c.args.self.now c.take_rotas.new.self _ _ (sym (ap (λ (r : Running _). r.stop) c.self.view_is) ∙ c.in_default.is) c.in-Ok.ensures
 
-pub returns-clause-moves : goal.returns-clause-moves
-returns-clause-moves g c = driving_ends c.args.self.now c.rounds.self c.finished.result c.rounds.invariant c.finished.ensures c.rounds-test.false
+pub returns-in-Err : goal.returns-in-Err
+returns-in-Err g c = takes.halted_on c.args.self.now c.take_rotas.new.self _ _ c.in-Err.halt c.end-in-Err.result (sym (ap (λ (r : Running _). r.stop) c.self.view_is) ∙ c.in_default.is) c.end-in-Err.ensures c.in-Err.ensures

@@ -14,7 +14,7 @@ index-requires g c =
     let plan = plan_of c.self.inside.session in
     let s = state_now plan c.self.inside.trace.items in
     let there = rw (← c.self.view_is) at c.requires in
-    omega (arith, is_kept plan s c.self.inside.core c.args.client (is_reached _ _ _ _ c.self.invariant) c.self.invariant.stands (is_client plan.clients c.args.client c.args.seq there), c.self.inside.core.runners.ok.0)
+    omega (arith, is_kept plan s c.self.inside.core c.args.client (is_reached c.self.invariant) c.self.invariant.stands (is_client plan.clients c.args.client c.args.seq there), c.self.inside.core.runners.ok.0)
 
 pub returns-in-Some-Run : goal.returns-in-Some-Run
 returns-in-Some-Run g c =
@@ -23,7 +23,7 @@ returns-in-Some-Run g c =
     let there = rw (← c.self.view_is) at c.requires in
     let item : session.item_of plan c.args.client c.args.seq ≡ Some (session.Run c.in-Some-Run.field-0-0.items) = sym c.in-Some-Run.ensures ∙ ap (λ (i : Item). Some (plain_item i)) c.in-Some-Run.field-0-is in
     let present = ap (λ (x : Runner). x.state.seq) c.index.ensures
-    ∙ seq_kept plan s c.self.inside.core c.args.client c.index.result.now (is_reached _ _ _ _ c.self.invariant) c.self.invariant.stands (is_client plan.clients c.args.client c.args.seq there) in
+    ∙ seq_kept plan s c.self.inside.core c.args.client c.index.result.now (is_reached c.self.invariant) c.self.invariant.stands (is_client plan.clients c.args.client c.args.seq there) in
     rw (← c.self.view_is) (c.script_end.ensures ∙ run_end plan s c.args.client c.args.seq c.index.result.now.state.seq c.in-Some-Run.field-0-0.items c.self.inside.core.history.items item c.self.invariant.stands.history present)
 
 pub returns-in-Some-Lose : goal.returns-in-Some-Lose
@@ -33,5 +33,5 @@ returns-in-Some-Lose g c =
     let there = rw (← c.self.view_is) at c.requires in
     let item : session.item_of plan c.args.client c.args.seq ≡ Some session.Lose = sym c.in-Some-Lose.ensures ∙ ap (λ (i : Item). Some (plain_item i)) c.in-Some-Lose.field-0-is in
     let present = ap (λ (x : Runner). x.state.seq) c.index.ensures
-    ∙ seq_kept plan s c.self.inside.core c.args.client c.index.result.now (is_reached _ _ _ _ c.self.invariant) c.self.invariant.stands (is_client plan.clients c.args.client c.args.seq there) in
+    ∙ seq_kept plan s c.self.inside.core c.args.client c.index.result.now (is_reached c.self.invariant) c.self.invariant.stands (is_client plan.clients c.args.client c.args.seq there) in
     rw (← c.self.view_is) (c.loss_end.ensures ∙ loss_end plan s c.args.client c.args.seq c.index.result.now.state.seq item present)

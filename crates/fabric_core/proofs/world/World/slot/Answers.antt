@@ -8,4 +8,4 @@ use Rattle.fabric_core.proofs.world.World.slot.Goals as goal
 pub returns : goal.returns
 returns g c =
     let plan = plan_of c.self.inside.session in
-    rw (← c.self.view_is) (c.slot.ensures ∙ slot_shown plan (state_now plan c.self.inside.trace.items) c.self.inside.core (is_reached _ _ _ _ c.self.invariant) c.self.invariant.stands c.args.stage)
+    rw (← c.self.view_is) (c.slot.ensures ∙ slot_shown plan (state_now plan c.self.inside.trace.items) c.self.inside.core (is_reached c.self.invariant) c.self.invariant.stands c.args.stage)

@@ -2,6 +2,7 @@ use Rattle.std.proofs.Common.{◌≡◌, ◌-◌, length, map}
 use Rattle.std.specs.List.{range_with_len}
 use Rattle.catalogue.specs.declared.actor.Actor.TheVariants.{Port}
 use Rattle.core_model.specs.Rota.{numbers_below}
+use Rattle.fabric_core.specs.Racks.{seen}
 use Rattle.fabric_core.proofs.Takes.{IsTaking}
 use Rattle.fabric_core.proofs.world.World.take_ports.Given as goal
 
@@ -9,5 +10,5 @@ use Rattle.fabric_core.proofs.world.World.take_ports.Given as goal
 abbrev pub invariant-loop-client : goal.invariant-loop-client
 invariant-loop-client g l = record {
   end : l.client-end ≡ length l.fn.self.plan.clients;
-  taking : IsTaking (map Port (range_with_len l.client (l.client-end - l.client))) (map Port (numbers_below (length l.fn.self.plan.clients))) l.fn.self l.self;
+  taking : IsTaking (map Port (range_with_len l.client (l.client-end - l.client))) (map Port (numbers_below (length l.fn.self.plan.clients))) l.fn.self l.self (seen (g.L.LogRack.told l.fn.self.rack) (g.L.LogRack.keeps l.fn.self.rack) (g.L.LogRack.faults l.fn.self.rack)) (seen (g.L.LogRack.told l.self.rack) (g.L.LogRack.keeps l.self.rack) (g.L.LogRack.faults l.self.rack));
 }

@@ -9,12 +9,12 @@ use Rattle.fabric_core.proofs.world.World.tuple_now.Goals as goal
 pub register-requires : goal.register-requires
 register-requires g c =
     let plan = plan_of c.self.inside.session in
-    place_there plan (state_now plan c.self.inside.trace.items) c.self.inside.core (is_reached _ _ _ _ c.self.invariant) c.self.invariant.stands c.args.tuple c.in-Some.place (sym c.in-Some.ensures)
+    place_there plan (state_now plan c.self.inside.trace.items) c.self.inside.core (is_reached c.self.invariant) c.self.invariant.stands c.args.tuple c.in-Some.place (sym c.in-Some.ensures)
 
 pub returns-in-Some : goal.returns-in-Some
 returns-in-Some g c =
     let plan = plan_of c.self.inside.session in
-    let shown = register_shown plan (state_now plan c.self.inside.trace.items) c.self.inside.core (is_reached _ _ _ _ c.self.invariant) c.self.invariant.stands c.args.tuple c.in-Some.place (sym c.in-Some.ensures) in
+    let shown = register_shown plan (state_now plan c.self.inside.trace.items) c.self.inside.core (is_reached c.self.invariant) c.self.invariant.stands c.args.tuple c.in-Some.place (sym c.in-Some.ensures) in
     let fits : SFits w64 c.register.result = search rules in
     rw (← c.self.view_is) (to_z-of_z w64 c.register.result fits ∙ c.register.ensures ∙ shown)
 
@@ -22,11 +22,11 @@ pub read-requires : goal.read-requires
 read-requires g c =
     let plan = plan_of c.self.inside.session in
     let there = rw (← c.self.view_is) at c.requires in
-    stored_there plan (state_now plan c.self.inside.trace.items) c.self.inside.core (is_reached _ _ _ _ c.self.invariant) c.self.invariant.stands c.args.tuple (sym c.in-None.ensures) there
+    stored_there plan (state_now plan c.self.inside.trace.items) c.self.inside.core (is_reached c.self.invariant) c.self.invariant.stands c.args.tuple (sym c.in-None.ensures) there
 
 pub returns-in-None : goal.returns-in-None
 returns-in-None g c =
     let plan = plan_of c.self.inside.session in
-    let shown = value_shown plan (state_now plan c.self.inside.trace.items) c.self.inside.core (is_reached _ _ _ _ c.self.invariant) c.self.invariant.stands c.args.tuple (sym c.in-None.ensures) c.read.result c.read.ensures in
+    let shown = value_shown plan (state_now plan c.self.inside.trace.items) c.self.inside.core (is_reached c.self.invariant) c.self.invariant.stands c.args.tuple (sym c.in-None.ensures) c.read.result c.read.ensures in
     let fits : SFits w64 c.read.result.value = search rules in
     rw (← c.self.view_is) (to_z-of_z w64 c.read.result.value fits ∙ shown)

@@ -1,44 +1,63 @@
-use Rattle.std.proofs.Common.{List, refl, ap, arith}
+use Rattle.std.proofs.Common.{ap, ◌∙◌, arith}
 use Rattle.catalogue.specs.PlanOf.{plan_of}
-use Rattle.catalogue.specs.declared.actor.Actor.{Actor}
 use Rattle.fabric_model.specs.Run.{state_now}
-use Rattle.fabric_core.proofs.Worlds.{is_short, its_turn, has_room, has_moved, kept_moved, kept_idle}
+use Rattle.fabric_core.specs.Racks.{seen}
+use Rattle.fabric_core.specs.Running.{Running}
+use Rattle.fabric_core.proofs.Worlds as worlds
 use Rattle.fabric_core.proofs.world.World.turn.Goals as goal
 
 pub overflow_cast-at : goal.overflow_cast-at
-overflow_cast-at g c = omega (arith, c.len-at.ensures, is_short _ _ _ _ c.self.invariant)
+overflow_cast-at g c = omega (arith, c.len-at.ensures, worlds.is_short c.self.invariant)
 
-pub turn-requires : goal.turn-requires
-turn-requires g c =
-    let within = rw (← c.self.view_is) at c.requires in
-    (state_now (plan_of c.self.inside.session) c.self.inside.trace.items, its_turn _ _ _ _ c.self.invariant c.args.actor c.len-at.result within c.len-at.ensures)
-
-pub invariant_of-self : goal.invariant_of-self
-invariant_of-self g c =
-    let within = rw (← c.self.view_is) at c.requires in
-    let idle = c.if-not-turn.ensures (state_now (plan_of c.self.inside.session) c.self.inside.trace.items) (its_turn _ _ _ _ c.self.invariant c.args.actor c.len-at.result within c.len-at.ensures) in
-    kept_idle _ _ _ _ c.self.invariant c.turn.new.self idle.1
-
-pub returns-then-not-turn : goal.returns-then-not-turn
-returns-then-not-turn g c =
-    let within = rw (← c.self.view_is) at c.requires in
-    let idle = c.if-not-turn.ensures (state_now (plan_of c.self.inside.session) c.self.inside.trace.items) (its_turn _ _ _ _ c.self.invariant c.args.actor c.len-at.result within c.len-at.ensures) in
-    rw (← c.self.view_is) (idle.0, refl)
+pub turn-turn-requires : goal.turn-turn-requires
+turn-turn-requires g c =
+    let within = rw (← c.self.view_is) at c.requires.actor in
+    (state_now (plan_of c.self.inside.session) c.self.inside.trace.items, worlds.its_turn c.self.invariant c.args.actor c.len-at.result within c.len-at.ensures)
 
 pub push-requires : goal.push-requires
 push-requires g c =
-    let within = rw (← c.self.view_is) at c.requires in
-    let follows = c.if-not-turn.ensures (state_now (plan_of c.self.inside.session) c.self.inside.trace.items) (its_turn _ _ _ _ c.self.invariant c.args.actor c.len-at.result within c.len-at.ensures) in
-    has_room _ _ _ _ c.self.invariant c.args.actor c.turn.new.self follows
+    let within = rw (← c.self.view_is) at c.requires.actor in
+    let turn = c.turn-turn.ensures.turn (state_now (plan_of c.self.inside.session) c.self.inside.trace.items) (worlds.its_turn c.self.invariant c.args.actor c.len-at.result within c.len-at.ensures) in
+    worlds.has_room c.self.invariant c.args.actor c.turn-turn.new.self _ (worlds.moves c.self.invariant c.self.inside.rack c.turn-turn.new.rack c.args.actor c.turn-turn.new.self _ c.turn-turn.result turn c.in-Moved.is)
 
-pub invariant_of-self-2 : goal.invariant_of-self-2
-invariant_of-self-2 g c =
-    let within = rw (← c.self.view_is) at c.requires in
-    let follows = c.if-not-turn.ensures (state_now (plan_of c.self.inside.session) c.self.inside.trace.items) (its_turn _ _ _ _ c.self.invariant c.args.actor c.len-at.result within c.len-at.ensures) in
-    kept_moved _ _ _ _ c.self.invariant c.args.actor c.turn.new.self c.push.new.self follows c.push.ensures.items c.push.ensures.spare
+pub invariant_of-self : goal.invariant_of-self
+invariant_of-self g c =
+    let within = rw (← c.self.view_is) at c.requires.actor in
+    let goes = ap (λ (r : Running _). r.stop) c.self.view_is ∙ c.requires.goes_on in
+    let turn = c.turn-turn.ensures.turn (state_now (plan_of c.self.inside.session) c.self.inside.trace.items) (worlds.its_turn c.self.invariant c.args.actor c.len-at.result within c.len-at.ensures) in
+    worlds.kept_moved c.self.invariant goes c.args.actor c.turn-turn.new.self c.push.new.self _ (worlds.moves c.self.invariant c.self.inside.rack c.turn-turn.new.rack c.args.actor c.turn-turn.new.self _ c.turn-turn.result turn c.in-Moved.is)
+    c.push.ensures.items c.push.ensures.spare
 
-pub returns : goal.returns
-returns g c =
-    let within = rw (← c.self.view_is) at c.requires in
-    let follows = c.if-not-turn.ensures (state_now (plan_of c.self.inside.session) c.self.inside.trace.items) (its_turn _ _ _ _ c.self.invariant c.args.actor c.len-at.result within c.len-at.ensures) in
-    rw (← c.self.view_is) (has_moved (plan_of c.self.inside.session) _ c.args.actor c.turn.new.self follows, ap (λ (l : List Actor). record { plan = plan_of c.self.inside.session; trace = l; rack = c.self.inside.rack }) c.push.ensures.items)
+pub invariant_of-self-in-LogFault : goal.invariant_of-self-in-LogFault
+invariant_of-self-in-LogFault g c =
+    let within = rw (← c.self.view_is) at c.requires.actor in
+    let goes = ap (λ (r : Running _). r.stop) c.self.view_is ∙ c.requires.goes_on in
+    let turn = c.turn-turn.ensures.turn (state_now (plan_of c.self.inside.session) c.self.inside.trace.items) (worlds.its_turn c.self.invariant c.args.actor c.len-at.result within c.len-at.ensures) in
+    let fails = worlds.fails c.self.invariant c.self.inside.rack c.turn-turn.new.rack c.args.actor c.turn-turn.new.self _ c.turn-turn.result turn c.in-LogFault.client c.in-LogFault.is in
+    worlds.kept_failed c.self.invariant goes c.in-LogFault.client c.turn-turn.new.self _ fails.1
+
+pub invariant_of-self-in-Idle : goal.invariant_of-self-in-Idle
+invariant_of-self-in-Idle g c =
+    let within = rw (← c.self.view_is) at c.requires.actor in
+    let goes = ap (λ (r : Running _). r.stop) c.self.view_is ∙ c.requires.goes_on in
+    let turn = c.turn-turn.ensures.turn (state_now (plan_of c.self.inside.session) c.self.inside.trace.items) (worlds.its_turn c.self.invariant c.args.actor c.len-at.result within c.len-at.ensures) in
+    worlds.kept_rest c.self.invariant goes c.args.actor c.turn-turn.new.self _ c.turn-turn.result turn c.in-Idle.is
+    (λ idle. ap (λ r. seen (g.L.LogRack.told r) (g.L.LogRack.keeps r) (g.L.LogRack.faults r)) (c.turn-turn.ensures.idle idle))
+
+pub returns-in-Moved : goal.returns-in-Moved
+returns-in-Moved g c =
+    let within = rw (← c.self.view_is) at c.requires.actor in
+    let turn = c.turn-turn.ensures.turn (state_now (plan_of c.self.inside.session) c.self.inside.trace.items) (worlds.its_turn c.self.invariant c.args.actor c.len-at.result within c.len-at.ensures) in
+    rw (← c.self.view_is) (worlds.says_moved c.self.invariant c.self.inside.rack c.turn-turn.new.rack c.args.actor c.turn-turn.new.self _ c.turn-turn.result turn c.in-Moved.is c.push.new.self.items c.push.ensures.items)
+
+pub returns-in-LogFault : goal.returns-in-LogFault
+returns-in-LogFault g c =
+    let within = rw (← c.self.view_is) at c.requires.actor in
+    let turn = c.turn-turn.ensures.turn (state_now (plan_of c.self.inside.session) c.self.inside.trace.items) (worlds.its_turn c.self.invariant c.args.actor c.len-at.result within c.len-at.ensures) in
+    rw (← c.self.view_is) (worlds.says_failed c.self.invariant c.self.inside.rack c.turn-turn.new.rack c.args.actor c.turn-turn.new.self _ c.turn-turn.result turn c.in-LogFault.client c.in-LogFault.is)
+
+pub returns-in-Idle : goal.returns-in-Idle
+returns-in-Idle g c =
+    let within = rw (← c.self.view_is) at c.requires.actor in
+    let turn = c.turn-turn.ensures.turn (state_now (plan_of c.self.inside.session) c.self.inside.trace.items) (worlds.its_turn c.self.invariant c.args.actor c.len-at.result within c.len-at.ensures) in
+    rw (← c.self.view_is) (worlds.says_rest c.self.invariant c.self.inside.rack c.turn-turn.new.rack c.args.actor c.turn-turn.new.self _ c.turn-turn.result turn c.in-Idle.is c.turn-turn.ensures.idle)
