@@ -10,8 +10,12 @@ A case is a folder with any of these files; what is absent is empty, and the sta
                 input and writes that
   stderr        what it must write to standard error, every byte
   status        the exit status
+  logs          the files of logs that stand afterwards, a line for each: its name, a space, and its bytes as hexadecimal
+                digits; without this file logs aren't compared, but where nothing was run there must be none
   seconds       how long it may take (else 60)
 or with the one file check.py, which is given the program and writes a line for each fault that it finds.
+
+Each case runs in an empty folder of its own, where the program makes its folder of logs.
 """
 import pathlib
 import subprocess
@@ -19,6 +23,8 @@ import sys
 import tempfile
 
 HERE = pathlib.Path(__file__).resolve().parent
+# the statuses with which the program ends before it runs anything
+NOTHING_RUN = (2, 3, 5, 10)
 
 
 def content(path):
@@ -44,14 +50,31 @@ def first_difference(got, wanted):
     return f"differs first at byte {at}: got {got[at:at + 60]!r}, wanted {wanted[at:at + 60]!r}"
 
 
-def faults_of_check(check, program):
-    ran = subprocess.run([sys.executable, "-B", str(check), program], stdout=subprocess.PIPE, text=True, timeout=600)
+def logs_in(folder):
+    """The files of logs in the folder as lines, or None where there is no folder of logs."""
+    logs = pathlib.Path(folder) / "p4db-logs"
+    return [f"{file.name} {file.read_bytes().hex()}" for file in sorted(logs.iterdir())] if logs.exists() else None
+
+
+def log_faults(case, folder, status):
+    found = logs_in(folder)
+    if status in NOTHING_RUN:
+        return [] if found is None else ["there is a folder of logs, though nothing was run"]
+    if not (case / "logs").is_file():
+        return []
+    lines = (line.partition(" ") for line in content(case / "logs").decode().splitlines())
+    wanted = [f"{name} {digits.replace(' ', '')}" for name, _, digits in lines]
+    return [] if found == wanted else [f"logs are {found}, and not {wanted}"]
+
+
+def faults_of_check(check, program, folder):
+    ran = subprocess.run([sys.executable, "-B", str(check), program], stdout=subprocess.PIPE, text=True, cwd=folder, timeout=600)
     return ran.stdout.splitlines() + ([f"ended with status {ran.returncode}"] if ran.returncode else [])
 
 
 def faults_of(case, program, folder):
     if (case / "check.py").is_file():
-        return faults_of_check(case / "check.py", program)
+        return faults_of_check(case / "check.py", program, folder)
     words = content(case / "args").decode().splitlines()
     limit = float(content(case / "seconds").decode() or 60)
     stdin = stdin_of(case)
@@ -67,7 +90,7 @@ def faults_of(case, program, folder):
     ):
         if got != wanted:
             faults.append(f"{name} {first_difference(got, wanted)}")
-    return faults
+    return faults + log_faults(case, folder, status)
 
 
 def main():

@@ -2,11 +2,14 @@
 #![tactic(auto)]
 
 use p4db_top::{Note, command};
-use port_io::{CleanRack, StdSink, StdSource, Word};
+use port_io::{FileRack, StdSink, StdSource, Word};
 use std::io::ErrorKind;
 use std::process::ExitCode;
 use std::rt::Env;
 use std::{env, io};
+
+/// The folder of the clients' logs, where the program runs.
+const LOGS: &str = "p4db-logs";
 
 /// The words behind the program's name. Words that aren't UTF-8 are no command.
 fn words_of<R: Env + AllocGlobal>(rt: &R) -> Result<Vec<Word>, Note> {
@@ -30,7 +33,7 @@ fn answer(rt: &HostRuntime) -> Note {
         Ok(words) => {
             let mut source = StdSource::fresh(rt);
             let mut sink = StdSink::fresh(rt);
-            let logs = CleanRack::fresh(rt.alloc());
+            let logs = FileRack::at(rt, LOGS);
             command(rt.alloc(), words.as_slice(), &mut source, &mut sink, logs).note
         }
         Err(note) => note,

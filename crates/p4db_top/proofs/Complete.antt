@@ -4,9 +4,11 @@ use Rattle.catalogue.specs.Plan.{Plan}
 use Rattle.port_io.specs.ReadAll.{TakesAll, TakesBeyond}
 use Rattle.session_reader.specs.SessionOf.{session_of}
 use Rattle.session_reader.specs.declared.fault.SessionFault.{SessionFault}
+use Rattle.fabric_core.specs.Racks.{Rack}
 use Rattle.fabric_model.specs.Driven.{has_no_loss}
 use Rattle.p4db_top.specs.declared.note.Note.{Note}
-use Rattle.p4db_top.specs.declared.note.Note.TheVariants.{Done, Usage, ReadFault, InputTooLong, WriteFault, Session, NotBuilt, NoMemory}
+use Rattle.p4db_top.specs.declared.note.Note.TheVariants.{Done, Usage, ReadFault, InputTooLong, WriteFault, Session, LogFault, NotBuilt, NoMemory}
+use Rattle.p4db_top.specs.Logs.{IsLogFault}
 use Rattle.p4db_top.specs.Headline.{most_input, Explains, Refuses, IsNotBuilt}
 
 -- what was taken is all that there was
@@ -30,13 +32,14 @@ not_another bytes session rest is built r =
     let not_built = ap has_no_loss (sym same) ∙ r.loses in
     cc (built, not_built)
 
-pub complete_from : (note : Note) (rest before after : Option (List ℕ)) (bytes : List ℕ) (session : Plan) → Explains note (Some bytes) rest before after → length bytes ≤ most_input → session_of bytes ≡ Ok session → has_no_loss session ≡ true
-    → (note ≡ ReadFault → ⊥) → (note ≡ WriteFault → ⊥) → (note ≡ Done) ⊎ (note ≡ NoMemory)
-complete_from Done rest before after bytes session e few is built read write = inl refl
-complete_from NoMemory rest before after bytes session e few is built read write = inr refl
-complete_from Usage rest before after bytes session e few is built read write = absurd e
-complete_from ReadFault rest before after bytes session e few is built read write = absurd (read refl)
-complete_from WriteFault rest before after bytes session e few is built read write = absurd (write refl)
-complete_from InputTooLong rest before after bytes session e few is built read write = absurd (not_beyond most_input bytes rest e.0 few)
-complete_from (Session fault) rest before after bytes session e few is built read write = absurd (not_refused bytes session rest fault is e.0)
-complete_from NotBuilt rest before after bytes session e few is built read write = absurd (not_another bytes session rest is built e.0)
+pub complete_from : (note : Note) (rest before after : Option (List ℕ)) (old new : Rack) (bytes : List ℕ) (session : Plan) → Explains note (Some bytes) rest before after old new → length bytes ≤ most_input → session_of bytes ≡ Ok session → has_no_loss session ≡ true
+    → (note ≡ ReadFault → ⊥) → (note ≡ WriteFault → ⊥) → (IsLogFault note → ⊥) → (note ≡ Done) ⊎ (note ≡ NoMemory)
+complete_from Done rest before after old new bytes session e few is built read write log = inl refl
+complete_from NoMemory rest before after old new bytes session e few is built read write log = inr refl
+complete_from Usage rest before after old new bytes session e few is built read write log = absurd e
+complete_from ReadFault rest before after old new bytes session e few is built read write log = absurd (read refl)
+complete_from WriteFault rest before after old new bytes session e few is built read write log = absurd (write refl)
+complete_from (LogFault c) rest before after old new bytes session e few is built read write log = absurd (log tt)
+complete_from InputTooLong rest before after old new bytes session e few is built read write log = absurd (not_beyond most_input bytes rest e.0 few)
+complete_from (Session fault) rest before after old new bytes session e few is built read write log = absurd (not_refused bytes session rest fault is e.0)
+complete_from NotBuilt rest before after old new bytes session e few is built read write log = absurd (not_another bytes session rest is built e.0)

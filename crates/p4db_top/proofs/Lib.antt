@@ -5,3 +5,4 @@ pub mod Placed
 pub mod DrivenRun
 pub mod Claims
 pub mod Explained
+pub mod Notes

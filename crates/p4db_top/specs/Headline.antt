@@ -3,6 +3,7 @@ use Rattle.std.specs.Prelude.{◌≡◌, ◌≢◌, ◌⊎◌, ℕ, true, false,
 use Rattle.std.specs.Io.KnownBytes.{Appends}
 use Rattle.catalogue.specs.Plan.{Plan}
 use Rattle.catalogue.specs.declared.actor.Actor.{Actor}
+use Rattle.fabric_core.specs.Racks.{Rack}
 use Rattle.fabric_model.specs.Driven.{has_no_loss}
 use Rattle.fabric_model.specs.Rota.{driven}
 use Rattle.fabric_model.specs.Run.{state_of}
@@ -15,7 +16,8 @@ use Rattle.session_reader.specs.SessionOf.{session_of}
 use Rattle.session_reader.specs.declared.fault.SessionFault.{SessionFault}
 use Rattle.session_reader.specs.declared.fault.SessionFault.TheVariants.{NoMemory as no_memory}
 use Rattle.p4db_top.specs.declared.note.Note.{Note}
-use Rattle.p4db_top.specs.declared.note.Note.TheVariants.{Done, Usage, ReadFault, InputTooLong, WriteFault, Session, NotBuilt, NoMemory}
+use Rattle.p4db_top.specs.declared.note.Note.TheVariants.{Done, Usage, ReadFault, InputTooLong, WriteFault, Session, LogFault, NotBuilt, NoMemory}
+use Rattle.p4db_top.specs.Logs.{HasLogs, StopsShort, LogFails}
 use Rattle.p4db_top.specs.Serial.{IsSerial, IsOnceEach, HaveCauses}
 
 -- the longest input that is read, in bytes
@@ -38,7 +40,7 @@ pub record Reads (left rest : Option (List ℕ)) (session : Plan) : Type 0 where
   pub losses : has_no_loss session ≡ true
 
 -- What stands behind status 0.
-pub record Headline (left rest before after : Option (List ℕ)) : Type 0 where
+pub record Headline (left rest before after : Option (List ℕ)) (old new : Rack) : Type 0 where
   pub session : Plan
   pub trace : List Actor
   pub state : State
@@ -56,6 +58,8 @@ pub record Headline (left rest before after : Option (List ℕ)) : Type 0 where
   pub once_each : IsOnceEach session trace state
   -- no lock was refused, and no transaction aborted, without cause
   pub aborts_have_causes : HaveCauses session trace state
+  -- where the rack kept, each client's log is told as the text of that client's records in that state
+  pub logs_match : HasLogs session state old new
 
 -- all that was left was read, and it is refused as the text of a session, for this cause
 pub record Refuses (left rest : Option (List ℕ)) (fault : SessionFault) : Type 0 where
@@ -72,7 +76,7 @@ pub record IsNotBuilt (left rest : Option (List ℕ)) : Type 0 where
   pub loses : has_no_loss session ≡ false
 
 -- A session was read and run, and a front of its output was written: what stands behind status 4.
-pub record WritesFront (left rest before after : Option (List ℕ)) : Type 0 where
+pub record WritesFront (left rest before after : Option (List ℕ)) (old new : Rack) : Type 0 where
   pub session : Plan
   pub trace : List Actor
   pub state : State
@@ -82,6 +86,20 @@ pub record WritesFront (left rest before after : Option (List ℕ)) : Type 0 whe
   pub run : state_of session trace ≡ Some state
   -- a front of the report of that was written
   pub printed : AppendsFront before after (report (run_report session state trace))
+  -- the logs are those of a whole run
+  pub logs_match : HasLogs session state old new
+
+-- a session was read, and its run ended where the log of this client failed
+pub record FailsAt (left rest : Option (List ℕ)) (old new : Rack) (c : ℕ) : Type 0 where
+  pub session : Plan
+  pub reads : Reads left rest session
+  pub logs : LogFails session c old new
+
+-- a session was read, and its run ended where there was no memory for a record
+pub record EndsShort (left rest : Option (List ℕ)) (old new : Rack) : Type 0 where
+  pub session : Plan
+  pub reads : Reads left rest session
+  pub stops : StopsShort session old new
 
 -- why no session was read, and what was taken of the source
 abbrev pub StopsReading : Note → (left rest : Option (List ℕ)) → Type 0
@@ -93,14 +111,18 @@ StopsReading NotBuilt left rest = ⊥
 StopsReading Done left rest = ⊥
 StopsReading Usage left rest = ⊥
 StopsReading WriteFault left rest = ⊥
+StopsReading (LogFault c) left rest = ⊥
 
--- what stands behind each note of the command `run`, where the sink's bytes are these before and after
-abbrev pub Explains : Note → (left rest before after : Option (List ℕ)) → Type 0
-Explains Done left rest before after = Headline left rest before after
-Explains Usage left rest before after = ⊥
-Explains ReadFault left rest before after = TakesWithin most_input left rest × (after ≡ before)
-Explains InputTooLong left rest before after = TakesBeyond most_input left rest × (after ≡ before)
-Explains WriteFault left rest before after = WritesFront left rest before after
-Explains (Session fault) left rest before after = Refuses left rest fault × (after ≡ before)
-Explains NotBuilt left rest before after = IsNotBuilt left rest × (after ≡ before)
-Explains NoMemory left rest before after = (TakesWithin most_input left rest × (after ≡ before)) ⊎ WritesFront left rest before after
+-- What stands behind each note of the command `run`, where these are the sink's bytes, and the rack, before and after. That the
+-- rack is the same where nothing was run is a clause of its own.
+abbrev pub Explains : Note → (left rest before after : Option (List ℕ)) → (old new : Rack) → Type 0
+Explains Done left rest before after old new = Headline left rest before after old new
+Explains Usage left rest before after old new = ⊥
+Explains ReadFault left rest before after old new = TakesWithin most_input left rest × (after ≡ before)
+Explains InputTooLong left rest before after old new = TakesBeyond most_input left rest × (after ≡ before)
+Explains WriteFault left rest before after old new = WritesFront left rest before after old new
+Explains (Session fault) left rest before after old new = Refuses left rest fault × (after ≡ before)
+Explains (LogFault c) left rest before after old new = FailsAt left rest old new c × (after ≡ before)
+Explains NotBuilt left rest before after old new = IsNotBuilt left rest × (after ≡ before)
+Explains NoMemory left rest before after old new =
+    (TakesWithin most_input left rest × (after ≡ before) × (new ≡ old)) ⊎ ((EndsShort left rest old new × (after ≡ before)) ⊎ WritesFront left rest before after old new)

@@ -1,4 +1,5 @@
 pub mod Serial
 pub mod Status
+pub mod Logs
 pub mod Headline
 pub mod Ran

@@ -8,7 +8,7 @@ use Rattle.session_reader.specs.declared.fault.OpAt.{OpAt}
 use Rattle.session_reader.specs.declared.fault.SessionFault.{SessionFault}
 use Rattle.session_reader.specs.declared.fault.SessionFault.TheVariants as fault
 use Rattle.p4db_top.specs.declared.note.Note.{Note}
-use Rattle.p4db_top.specs.declared.note.Note.TheVariants.{Done, Usage, ReadFault, InputTooLong, WriteFault, Session, NotBuilt, NoMemory}
+use Rattle.p4db_top.specs.declared.note.Note.TheVariants.{Done, Usage, ReadFault, InputTooLong, WriteFault, Session, LogFault, NotBuilt, NoMemory}
 
 abbrev pub status_of : Note → ℕ
 status_of Done = 0
@@ -17,6 +17,7 @@ status_of ReadFault = 3
 status_of InputTooLong = 3
 status_of WriteFault = 4
 status_of (Session fault) = 5
+status_of (LogFault client) = 6
 status_of NoMemory = 9
 status_of NotBuilt = 10
 
@@ -69,5 +70,6 @@ line_of ReadFault = codes "p4db: read failed\n"
 line_of InputTooLong = codes "p4db: input longer than 16777216 bytes\n"
 line_of WriteFault = codes "p4db: write failed\n"
 line_of (Session fault) = codes "p4db: session fault " ++ fault_text fault ++ codes "\n"
+line_of (LogFault client) = codes "p4db: log of c" ++ decimal client ++ codes " failed\n"
 line_of NoMemory = codes "p4db: out of memory\n"
 line_of NotBuilt = codes "p4db: not built yet\n"

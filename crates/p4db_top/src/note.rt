@@ -22,6 +22,8 @@ pub enum Note {
     WriteFault,
     /// The text is that of no session.
     Session(SessionFault),
+    /// The log of this client failed: it could not be emptied, or a record could not be appended to it.
+    LogFault(u8),
     /// The session is one that this program doesn't run yet: one of its items loses the switch.
     NotBuilt,
     /// Memory ran out.
@@ -31,7 +33,7 @@ pub enum Note {
 impl Note {
     ghost use Rattle.p4db_top.specs.Status.{status_of};
 
-    /// The exit status: 0, 2 to 5, 9 or 10.
+    /// The exit status: 0, 2 to 6, 9 or 10.
     pub fn status(self) -> u8
         ensures { result ≡ status_of self }
     {
@@ -41,6 +43,7 @@ impl Note {
             Note::ReadFault | Note::InputTooLong => 3,
             Note::WriteFault => 4,
             Note::Session(_) => 5,
+            Note::LogFault(_) => 6,
             Note::NoMemory => 9,
             Note::NotBuilt => 10,
         }
@@ -67,6 +70,7 @@ impl fmt::Display for Note {
                 let text = FaultText(fault);
                 write!(f, "p4db: session fault {text}\n")
             }
+            Note::LogFault(client) => write!(f, "p4db: log of c{client} failed\n"),
             Note::NotBuilt => f.write_str("p4db: not built yet\n"),
             Note::NoMemory => f.write_str("p4db: out of memory\n"),
         }

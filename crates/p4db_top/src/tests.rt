@@ -1,5 +1,5 @@
 use super::*;
-use port_io::{CleanRack, CleanSink, CleanSource, MemSink, MemSource, Word};
+use port_io::{CleanRack, CleanSink, CleanSource, MemRack, MemSink, MemSource, Word};
 use std::alloc::{AllocError, Global};
 use std::test::Fail;
 
@@ -16,6 +16,10 @@ const PACKETS: &str =
 const PACKETS_REPORT: &str =
     "replies 3\nc0 1 hot 1.0 10>11 50>49\nc1 1 hot 2.0 20>21\nc2 1 warm 3.0 30>30 11>41 40>12\nhistory 3\n1.0 c0 1\n2.0 c1 1\n3.0 c2 1\ntuples 5\nt0 41\nt1 21\nt2 30\nt3 12\nt4 49\nschedule c0 c0 c1 c1 p0 s0 s1 p1 c2 s0 c2 p0 s1 s0 c1 c2 s1 c0 c2 p2 s0 s1 c2 c2 c2\n";
 
+/// The rack is called for two resets and for two intents, and then for the second client's outcome.
+const SHARED: &str =
+    r#"{"shape":{"stages":2,"arrays":1,"cells":2,"split":1,"hosts":2},"tuples":[[0,10],[1,20],[2,30],[3,40],[4,50]],"layout":[[0,0,0,0],[1,1,0,0],[4,0,0,1]],"tries":2,"clients":[[[["add",0,1,[]]]],[[["add",0,1,[]]]]],"schedule":"c0 c0 c1 c1 p1 s0 p0"}"#;
+
 const LOSES: &str =
     r#"{"shape":{"stages":1,"arrays":1,"cells":1,"split":0,"hosts":1},"tuples":[],"layout":[],"tries":1,"clients":[["lose"]],"schedule":""}"#;
 
@@ -31,34 +35,34 @@ fn bytes(alloc: Global, text: &str) -> Result<Vec<u8>, AllocError> {
     Vec::from_slice(alloc, text.as_bytes())
 }
 
+// Each row has the number of the rack's call that fails; no call has the number 0.
 #[test]
 fn texts_get_these_answers(rt: HostRuntime) -> Result<(), Fail> {
+    let run: &[&str] = &["run"];
     let cases = [
-        (["run"].as_slice(), SESSION, Note::Done, REPORT),
-        (["run"].as_slice(), PACKETS, Note::Done, PACKETS_REPORT),
-        (["run"].as_slice(), LOSES, Note::NotBuilt, ""),
+        (run, SESSION, 0, Note::Done, REPORT),
+        (run, SESSION, 1, Note::LogFault(0), ""),
+        (run, PACKETS, 0, Note::Done, PACKETS_REPORT),
+        (run, SHARED, 5, Note::LogFault(1), ""),
+        (run, LOSES, 1, Note::NotBuilt, ""),
+        (run, "", 1, Note::Session(SessionFault::NotJson), ""),
         (
-            ["run"].as_slice(),
-            "",
-            Note::Session(SessionFault::NotJson),
-            "",
-        ),
-        (
-            ["run"].as_slice(),
+            run,
             "1",
+            1,
             Note::Session(SessionFault::BadShape(Section::Whole)),
             "",
         ),
-        (["run", "5"].as_slice(), SESSION, Note::Usage, ""),
-        (["help"].as_slice(), SESSION, Note::Usage, ""),
-        ([].as_slice(), SESSION, Note::Usage, ""),
+        (["run", "5"].as_slice(), SESSION, 1, Note::Usage, ""),
+        (["help"].as_slice(), SESSION, 1, Note::Usage, ""),
+        ([].as_slice(), SESSION, 1, Note::Usage, ""),
     ];
-    for (texts, text, note, printed) in cases {
+    for (texts, text, fails, note, printed) in cases {
         let alloc = rt.alloc();
         let mut source = CleanSource::of(bytes(alloc, text)?);
         let mut sink = CleanSink::fresh(alloc);
         let words = words(alloc, texts)?;
-        let rack = CleanRack::fresh(alloc);
+        let rack = MemRack::of(alloc, vec![in alloc; fails]?);
         let ended = command(alloc, words.as_slice(), &mut source, &mut sink, rack);
         assert_eq!(rt; ended.note, note);
         assert_eq!(rt; ended.status, note.status());

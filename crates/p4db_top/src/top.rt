@@ -6,8 +6,10 @@ ghost use Rattle.catalogue.specs.Plan.{Plan};
 ghost use Rattle.catalogue.specs.PlanOf.{plan_of};
 ghost use Rattle.catalogue.specs.Sound.{IsSound};
 ghost use Rattle.session_reader.specs.SessionOf.{session_of};
+ghost use Rattle.fabric_core.specs.Racks.{seen};
 ghost use Rattle.fabric_model.specs.Driven.{has_no_loss};
 ghost use Rattle.p4db_top.specs.Headline.{most_input, IsRun, IsRead, Headline, StopsReading, Explains};
+ghost use Rattle.p4db_top.specs.Logs.{HasLogCause, IsOfNoRun};
 ghost use Rattle.p4db_top.specs.Status.{status_of};
 
 use crate::named::run_named;
@@ -67,11 +69,13 @@ fn run<S: Source, K: Sink, L: LogRack>(
     sink: &mut K,
     rack: L,
 ) -> (Note, L)
-    ensures explained { Explains result.0 (S.left source.old) (S.left source.new) (K.content sink.old) (K.content sink.new) }
+    ensures explained { Explains result.0 (S.left source.old) (S.left source.new) (K.content sink.old) (K.content sink.new)
+        (seen (L.told rack) (L.keeps rack) (L.faults rack)) (seen (L.told result.1) (L.keeps result.1) (L.faults result.1)) }
     ensures told { result.0 ≢ Note.Session SessionFault.NoMemory }
     ensures read_cause { HasCause (S.faults source.old) (S.faults source.new) (result.0 ≡ Note.ReadFault) }
     ensures write_cause { HasCause (K.faults sink.old) (K.faults sink.new) (result.0 ≡ Note.WriteFault) }
-    ensures rack { result.1 ≡ rack }
+    ensures log_cause { HasLogCause (L.faults rack) (L.faults result.1) result.0 }
+    ensures untouched { IsOfNoRun result.0 → result.1 ≡ rack }
 {
     match session_of(alloc, source) {
         Ok(session) => run_named::<L, K, Brand>(alloc, session, sink, rack),
@@ -80,13 +84,16 @@ fn run<S: Source, K: Sink, L: LogRack>(
 }
 
 /// Does what the words say, and tells how it ended. The one command is `run`: it reads a session from
-/// the source, runs it and writes its report to the sink, in one piece.
+/// the source, empties the logs of the session's clients, runs it, with each record in its client's log
+/// before the client moves, and writes its report to the sink, in one piece.
 ///
 /// Status 0 says that the headline holds. The other statuses: 2 `Usage` exactly where the words are no
 /// command; 3 `ReadFault` only where the source's count of failures rose, and `InputTooLong` exactly
 /// where a byte beyond 16,777,216 was read; 4 `WriteFault` only where the sink's count rose; 5 and 10
-/// exactly by the bytes, after the source was read to its end; 9 where memory ran out. A status other
-/// than 0, 4 and 9 leaves the sink as it was; after 4 and 9 a front of the output stands.
+/// exactly by the bytes, after the source was read to its end; 6 `LogFault` only where the rack's count
+/// rose; 9 where memory ran out. A status other than 0, 4 and 9 leaves the sink as it was; after 4 and 9
+/// a front of the output stands. Statuses 2, 3, 5 and 10 leave the logs as they were. Where the rack kept,
+/// the logs hold the records of the turns that moved, after 6 perhaps with a front of one record more.
 pub fn command<S: Source, K: Sink, L: LogRack + Send>(
     alloc: Global,
     words: &[Word],
@@ -95,13 +102,18 @@ pub fn command<S: Source, K: Sink, L: LogRack + Send>(
     logs: L,
 ) -> Ended<L>
     ensures status { result.status ≡ status_of result.note }
-    ensures headline { result.status ≡ 0 → Headline (S.left source.old) (S.left source.new) (K.content sink.old) (K.content sink.new) }
+    ensures headline { result.status ≡ 0 → Headline (S.left source.old) (S.left source.new) (K.content sink.old) (K.content sink.new)
+        (seen (L.told logs) (L.keeps logs) (L.faults logs)) (seen (L.told result.logs) (L.keeps result.logs) (L.faults result.logs)) }
 
     // The words decide between the usage fault, which touches nothing, and the run.
     ensures usage { (result.note ≡ Note.Usage) ↔ (IsRun words.now → ⊥) }
     ensures untouched { (IsRun words.now → ⊥) → (source.new ≡ source.old) × (sink.new ≡ sink.old) }
     ensures explained { IsRun words.now
-        → Explains result.note (S.left source.old) (S.left source.new) (K.content sink.old) (K.content sink.new) }
+        → Explains result.note (S.left source.old) (S.left source.new) (K.content sink.old) (K.content sink.new)
+        (seen (L.told logs) (L.keeps logs) (L.faults logs)) (seen (L.told result.logs) (L.keeps result.logs) (L.faults result.logs)) }
+
+    // Where nothing was run, the logs are those that were handed in.
+    ensures logs { IsOfNoRun result.note → result.logs ≡ logs }
 
     // Want of memory is a note of its own.
     ensures told { result.note ≢ Note.Session SessionFault.NoMemory }
@@ -109,13 +121,13 @@ pub fn command<S: Source, K: Sink, L: LogRack + Send>(
     // Each failure has its cause, and a count that rose is told as a failure.
     ensures read_cause { HasCause (S.faults source.old) (S.faults source.new) (result.note ≡ Note.ReadFault) }
     ensures write_cause { HasCause (K.faults sink.old) (K.faults sink.new) (result.note ≡ Note.WriteFault) }
+    ensures log_cause { HasLogCause (L.faults logs) (L.faults result.logs) result.note }
 
     // A session within the limit is run, unless a call failed or memory ran out.
     ensures complete { (bytes : List ℕ) (session : Plan) → IsRun words.now → S.left source.old ≡ Some bytes
         → length bytes ≤ most_input → session_of bytes ≡ Ok session
         → has_no_loss session ≡ true → (Rose (S.faults source.old) (S.faults source.new) → ⊥) → (Rose (K.faults sink.old) (K.faults sink.new) → ⊥)
-        → (result.note ≡ Note.Done) ⊎ (result.note ≡ Note.NoMemory) }
-    ensures logs { result.logs ≡ logs }
+        → (Rose (L.faults logs) (L.faults result.logs) → ⊥) → (result.note ≡ Note.Done) ⊎ (result.note ≡ Note.NoMemory) }
 {
     let (note, logs) = if is_run(words) {
         run(alloc, source, sink, logs)

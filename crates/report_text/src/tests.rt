@@ -124,7 +124,9 @@ fn written<N: RunName>(
     let Ok(mut world) = World::<CleanRack, N>::begin(alloc, session, rack) else {
         return None;
     };
-    let End::Finished = world.finish();
+    let End::Finished = world.finish(alloc) else {
+        return None;
+    };
     let mut sink = MemSink::of(alloc, 10, fails);
     let answer = write_report(alloc, &world, &mut sink);
     Some((answer, sink))
