@@ -1,0 +1,6 @@
+pub mod Words
+pub mod Forms
+pub mod Numbers
+pub mod Table
+pub mod Answers
+pub mod ClapLine

@@ -1,0 +1,17 @@
+//! The words of the command line, as a command.
+//!
+//! The words are read by `clap`, as one command with a level of subcommands; its help and its version are
+//! off. Numbers are read here, from the texts that `clap` gives. This crate knows nothing of what a command
+//! does.
+#![tactic(auto)]
+
+mod command;
+mod line;
+mod number;
+mod read;
+
+pub use command::{Command, WordFault};
+pub use read::command_of;
+
+#[cfg(test)]
+mod tests;
