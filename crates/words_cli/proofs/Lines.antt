@@ -194,7 +194,7 @@ unfolding clap_on_literals
 free_is = refl
 
 apart_is : AllByRecursion IsApart built_forms
-apart_is = (refl, (refl, (refl, (refl, tt))))
+apart_is = (refl, (refl, tt))
 
 built_line : (words : List Text) → AllByRecursion IsUtf8 words
     → guard (fault_of (line_app built_forms) words) (subcommand_of (line_app built_forms) words) ≡ option_map line_rows (line_of built_forms words)

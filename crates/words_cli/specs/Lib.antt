@@ -4,3 +4,4 @@ pub mod Numbers
 pub mod Table
 pub mod Answers
 pub mod ClapLine
+pub mod Loads

@@ -5,7 +5,7 @@ use Rattle.words_cli.specs.Words.{Text, Place}
 use Rattle.words_cli.specs.Forms.{Form, line_of, value_at}
 use Rattle.words_cli.specs.Numbers.{number_in}
 use Rattle.words_cli.specs.declared.command.Command.{Command}
-use Rattle.words_cli.specs.declared.command.Command.TheVariants.{Run, Recover, Hot, Layout}
+use Rattle.words_cli.specs.declared.command.Command.TheVariants.{Run, Hot}
 
 -- a command that takes nothing, and one that takes one word
 abbrev pub bare : Text → Form
@@ -16,9 +16,9 @@ of_a_word name = record { name = name; options = []; takes_word = true }
 
 -- the commands that are built
 abbrev pub built_forms : List Form
-built_forms = bare (codes "run") ∷ bare (codes "recover") ∷ of_a_word (codes "hot") ∷ of_a_word (codes "layout") ∷ []
+built_forms = bare (codes "run") ∷ of_a_word (codes "hot") ∷ []
 
--- the greatest number of tuples that `hot` and `layout` take
+-- the greatest number of tuples that `hot` takes
 abbrev pub most_hot : ℕ
 most_hot = 65536
 
@@ -30,9 +30,7 @@ count_of word = option_and_then (number_in 0 most_hot) word
 abbrev pub command_by : Text → (Place → Option Text) → Option Command
 command_by name values =
     if bytes_eq name (codes "run") then Some Run else
-    (if bytes_eq name (codes "recover") then Some Recover else
-    (if bytes_eq name (codes "hot") then option_map Hot (count_of (values None)) else
-    (if bytes_eq name (codes "layout") then option_map Layout (count_of (values None)) else None)))
+    (if bytes_eq name (codes "hot") then option_map Hot (count_of (values None)) else None)
 
 -- the command that the words are
 abbrev pub command_of : List Text → Option Command

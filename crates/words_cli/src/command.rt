@@ -5,15 +5,8 @@
 pub enum Command {
     /// `run`: runs a session and prints its report.
     Run,
-    /// `recover`: prints the order that the logs of a session were recovered in.
-    Recover,
     /// `hot K`: prints the most used tuples of a session.
     Hot {
-        /// How many tuples at most, 0 to 65,536.
-        k: u32,
-    },
-    /// `layout K`: prints a layout of the most used tuples of a session.
-    Layout {
         /// How many tuples at most, 0 to 65,536.
         k: u32,
     },

@@ -64,8 +64,6 @@ pub(crate) fn command_line<'a>(alloc: Global) -> Result<Command<'a>, AllocError>
     ensures { IfOk result (λ c. app_of c ≡ line_app built_forms) }
 {
     let no_options: [&'a str; 0] = [];
-    let one = with_form(alloc, bare(alloc), "run", &no_options, false)?;
-    let two = with_form(alloc, one, "recover", &no_options, false)?;
-    let three = with_form(alloc, two, "hot", &no_options, true)?;
-    with_form(alloc, three, "layout", &no_options, true)
+    let run = with_form(alloc, bare(alloc), "run", &no_options, false)?;
+    with_form(alloc, run, "hot", &no_options, true)
 }

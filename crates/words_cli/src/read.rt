@@ -17,7 +17,7 @@ use clap::{ArgMatches, Command as Line, Error};
 use port_io::Word;
 use std::alloc::Global;
 
-/// The most tuples that `hot` and `layout` take.
+/// The most tuples that `hot` takes.
 const MOST_HOT: u64 = 65_536;
 
 /// Looks at each word, which is a text.
@@ -93,24 +93,13 @@ fn hot(count: Option<u32>) -> Option<Command>
     }
 }
 
-fn layout(count: Option<u32>) -> Option<Command>
-    ensures { result ≡ option_map Command.Layout count }
-{
-    match count {
-        Some(k) => Some(Command::Layout { k }),
-        None => None,
-    }
-}
-
 /// What the command of this name makes of what it was given.
 fn command_by(name: &str, given: &ArgMatches) -> Option<Command>
     ensures { result ≡ command_by name.now (values_in (rows_of (found_of given.now))) }
 {
     match name {
         "run" => Some(Command::Run),
-        "recover" => Some(Command::Recover),
         "hot" => hot(count_of(given)),
-        "layout" => layout(count_of(given)),
         _ => None,
     }
 }

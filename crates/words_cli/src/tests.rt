@@ -16,14 +16,11 @@ fn words_are_these_commands(rt: HostRuntime) -> Result<(), Fail> {
     let cases = [
         (["run"].as_slice(), Ok(Command::Run)),
         (["run", "--"].as_slice(), Ok(Command::Run)),
-        (["recover"].as_slice(), Ok(Command::Recover)),
+        (["recover"].as_slice(), Err(WordFault::Usage)),
         (["hot", "--", "3"].as_slice(), Ok(Command::Hot { k: 3 })),
         (["hot", "003"].as_slice(), Ok(Command::Hot { k: 3 })),
-        (
-            ["layout", "65536"].as_slice(),
-            Ok(Command::Layout { k: 65_536 }),
-        ),
-        (["layout", "65537"].as_slice(), Err(WordFault::Usage)),
+        (["hot", "65536"].as_slice(), Ok(Command::Hot { k: 65_536 })),
+        (["hot", "65537"].as_slice(), Err(WordFault::Usage)),
         (["hot"].as_slice(), Err(WordFault::Usage)),
         (["hot", "-3"].as_slice(), Err(WordFault::Usage)),
         (["run", "5"].as_slice(), Err(WordFault::Usage)),

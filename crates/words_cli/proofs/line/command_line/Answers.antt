@@ -8,7 +8,5 @@ use Rattle.words_cli.proofs.line.command_line.Goals as goal
 
 pub returns : goal.returns
 returns c =
-    let one : app_of c.in_ok-one.one ≡ _ = c.in_ok-one.ensures ∙ ap (λ (a : App). with_subcommand a (form_shape (bare (codes "run")))) c.bare.ensures in
-    let two : app_of c.in_ok-two.two ≡ _ = c.in_ok-two.ensures ∙ ap (λ (a : App). with_subcommand a (form_shape (bare (codes "recover")))) one in
-    let three : app_of c.in_ok-three.three ≡ _ = c.in_ok-three.ensures ∙ ap (λ (a : App). with_subcommand a (form_shape (of_a_word (codes "hot")))) two in
-    IfOk-weaker c.with_form-4.result _ _ (λ r h. h ∙ ap (λ (a : App). with_subcommand a (form_shape (of_a_word (codes "layout")))) three) c.with_form-4.ensures
+    let run_line : app_of c.in_ok-run.run' ≡ _ = c.in_ok-run.ensures ∙ ap (λ (a : App). with_subcommand a (form_shape (bare (codes "run")))) c.bare.ensures in
+    IfOk-weaker c.with_form-2.result _ _ (λ r h. h ∙ ap (λ (a : App). with_subcommand a (form_shape (of_a_word (codes "hot")))) run_line) c.with_form-2.ensures
