@@ -22,7 +22,7 @@ use Rattle.fabric_model.specs.ColdFacts.{FitsPhase}
 use Rattle.fabric_model.specs.Laws.{IsReached}
 use Rattle.fabric_model.specs.State.{State, client_at}
 use Rattle.fabric_model.specs.Step.{has_hot, next_op}
-use Rattle.fabric_model.proofs.Legal.{holds}
+use Rattle.fabric_model.proofs.Legal.{facts_now}
 use Rattle.fabric_model.proofs.Present.{present_of}
 use Rattle.client_phase.specs.ColdNumbers.{cold_count, cold_number, is_cold}
 use Rattle.client_phase.specs.Fits.{Fits, FitsScript, FitsAny}
@@ -59,7 +59,7 @@ item_past plan c seq lt =
 -- a client of a reached state at a script with these parts
 pub at_script : (plan : Plan) (s : State) (c : ℕ) (parts : Parts) (ops : List Op) → IsReached plan s → item_of plan c (client_at s c).seq ≡ Some (catalogue.Run ops) → IsParts plan.layout ops parts → IsAtScript plan c (client_at s c) parts
 at_script plan s c parts ops reached is sets =
-    let ties = (holds plan s reached).ties in
+    let ties = (facts_now plan s reached).facts in
     let made = made_of plan s reached c in
     let script : script_of plan c (client_at s c).seq ≡ Some ops = ap (option_and_then script_in) is in
     let same : ops ≡ script_now plan c (client_at s c) = sym (ap ops_in is) in
@@ -164,7 +164,7 @@ module _ (plan : Plan) (s : State) (c : ℕ) (reached : IsReached plan s) where
   -- a client at a loss is ready
   at_loss : item_of plan c now.seq ≡ Some catalogue.Lose → (q : Phase) → now.phase ≡ q → AtLoss
   at_loss is q e =
-      let ties = (holds plan s reached).ties in
+      let ties = (facts_now plan s reached).facts in
       let made = made_of plan s reached c in
       by q e (subst (FitsPhase plan c now) e (ties.cold.fits c)) (ap ops_in is) (ties.hot_ones c) (ties.installs c) made
     where

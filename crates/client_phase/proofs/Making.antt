@@ -12,17 +12,20 @@ use Rattle.core_model.specs.Facts.{steps_now}
 use Rattle.core_model.specs.Run.{first_clients}
 use Rattle.core_model.specs.State.{ClientState, at_item, script_now, zero_stamp}
 use Rattle.core_model.specs.Step.{next_item, try_ended, aborting, installed_one}
-use Rattle.core_model.specs.declared.phase.Phase.TheVariants.{Ready, Locking, Installing, Finished}
+use Rattle.core_model.specs.declared.phase.Phase.{Phase}
+use Rattle.core_model.specs.declared.phase.Phase.TheVariants.{Ready, Locking, Aborting, Logged, Waiting, Installing, Finished}
 use Rattle.core_model.proofs.Fewer.{same_or_not}
 use Rattle.core_model.proofs.Moves.{moved_client, others_stay}
 use Rattle.fabric_model.specs.Intents.{values_of}
 use Rattle.fabric_model.specs.Laws.{IsReached}
+use Rattle.fabric_model.specs.Recovery.{waits_again, resumed}
 use Rattle.fabric_model.specs.Run.{opening}
 use Rattle.fabric_model.specs.State.{State, client_at}
-use Rattle.fabric_model.specs.Step.{granted, refused, released, decided, logged, posted, taken, installed, replied}
+use Rattle.fabric_model.specs.Step.{lost, granted, refused, released, decided, logged, posted, taken, installed, replied}
 use Rattle.fabric_model.proofs.JoinedSteps.{length-joined_from}
-use Rattle.fabric_model.proofs.MoveKinds.{Move, Grants, Refuses, Releases, Decides, Logs, Posts, Takes, Installs, Moved, ByClient, AtPort, AtStage, move_of}
-use Rattle.fabric_model.proofs.Present.{reply_to, stamp_of, clients_at_port, clients_at_stage}
+use Rattle.fabric_model.proofs.MoveKinds.{Move, Loses, Grants, Refuses, Releases, Decides, Logs, Posts, Takes, Installs, Moved, ByClient, AtPort, AtStage, Recovers, move_of}
+use Rattle.fabric_model.proofs.Present.{reply_to, stamp_of, clients_at_port, clients_at_stage, client_recovered}
+use Rattle.fabric_model.proofs.Resumed.{installs_before}
 use Rattle.fabric_model.proofs.Runs.{of_reached}
 
 -- one that takes locks has one, one that installs has a reply, and one that has finished has no item left
@@ -73,12 +76,34 @@ made_installed plan c x all installing had = by (x.installed + 1 == all)
     by true = made_at plan c (x.seq + 1) x.last
     by false = record { locks = had.locks; reply = had.reply; finished = had.finished }
 
+locks_before : (p : Phase) → waits_again p ≡ Locking → p ≡ Locking
+locks_before Ready e = cc
+locks_before Locking e = refl
+locks_before Aborting e = cc
+locks_before Logged e = cc
+locks_before Waiting e = cc
+locks_before Installing e = cc
+locks_before Finished e = cc
+
+finished_before : (p : Phase) → waits_again p ≡ Finished → p ≡ Finished
+finished_before Ready e = cc
+finished_before Locking e = cc
+finished_before Aborting e = cc
+finished_before Logged e = cc
+finished_before Waiting e = cc
+finished_before Installing e = cc
+finished_before Finished e = refl
+
+made_resumed : (plan : Plan) (c : ℕ) (x : ClientState) → IsMade plan c x → IsMade plan c (resumed x)
+made_resumed plan c x had = record { locks = λ e. had.locks (locks_before x.phase e); reply = λ e. had.reply (installs_before x.phase e); finished = λ e. had.finished (finished_before x.phase e) }
+
 -- the client that moved
 abbrev Becomes : Plan → State → ℕ → State → Type 0
 Becomes plan s c after = (y : ClientState) × (after.clients ≡ set s.clients c y) × IsMade plan c y
 
 becomes : (plan : Plan) (s : State) (c : ℕ) (after : State) → IsMade plan c (client_at s c) → Move plan s c after → Becomes plan s c after
-unfolding granted refused released decided logged posted taken installed
+unfolding lost granted refused released decided logged posted taken installed
+becomes plan s c after here (Loses now phase item up is) = (_, ap (λ (z : State). z.clients) is, made_at plan c ((client_at s c).seq + 1) (client_at s c).last)
 becomes plan s c after here (Grants op asks next free is) = (_, ap (λ (z : State). z.clients) is, made_granted plan c (client_at s c) (seen_at s.store op.tuple))
 becomes plan s c after here (Refuses op by asks next held is) = (_, ap (λ (z : State). z.clients) is, made_aborting plan c (client_at s c) (client_at s c).noted)
 becomes plan s c after here (Releases phase is) = (_, ap (λ (z : State). z.clients) is, made_aborting plan c (client_at s c) (take (length (client_at s c).noted - 1) (client_at s c).noted))
@@ -107,6 +132,7 @@ made_step plan s after actor here (AtPort c now next up to is) =
     λ d. subst (λ (l : List ClientState). IsMade plan d (get_or l d (at_item 0 1 zero_stamp))) (sym (ap (λ (z : State). z.clients) is ∙ clients_at_port s c (desk_at now c) (next_number now) next)) (here d)
 made_step plan s after actor here (AtStage x now next up to is) =
     λ d. subst (λ (l : List ClientState). IsMade plan d (get_or l d (at_item 0 1 zero_stamp))) (sym (ap (λ (z : State). z.clients) is ∙ clients_at_stage s next)) (here d)
+made_step plan s after actor here (Recovers order down found is) = λ d. subst (IsMade plan d) (sym (client_recovered plan s after order is d)) (made_resumed plan d (client_at s d) (here d))
 
 made_at_opening : (plan : Plan) → AreMade plan (opening plan)
 unfolding opening

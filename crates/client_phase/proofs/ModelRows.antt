@@ -7,10 +7,10 @@ use Rattle.warm_split.specs.Joined.{joined}
 use Rattle.core_model.specs.State.{script_now}
 use Rattle.core_model.proofs.Moves.{moved_client}
 use Rattle.fabric_model.specs.Intents.{values_of}
-use Rattle.fabric_model.specs.Step.{granted, refused, released, decided, logged, posted, taken, installed}
-use Rattle.client_phase.specs.Laws.{RowsAreStepped}
+use Rattle.fabric_model.specs.Step.{lost, granted, refused, released, decided, logged, posted, taken, installed}
+use Rattle.client_phase.specs.Laws.{RowsAreStepped, LossesAreStepped}
 use Rattle.client_phase.specs.Shown.{shown_now}
-use Rattle.client_phase.proofs.Rows.{aborting_shown, granted_shown, decided_shown, logged_shown, posted_shown, taken_shown, installed_shown}
+use Rattle.client_phase.proofs.Rows.{next_shown, aborting_shown, granted_shown, decided_shown, logged_shown, posted_shown, taken_shown, installed_shown}
 
 length-front : (noted : List Seen) → length (take (length noted - 1) noted) ≡ length noted - 1
 length-front noted = length-take-le (length noted - 1) noted (omega arith)
@@ -28,3 +28,7 @@ rows_are_stepped plan s c x parts lt here =
       taken = λ answer after is. ap (shown_now plan c) (moved_client s.clients c _ lt) ∙ taken_shown plan c x parts here answer.number (joined plan.layout (script_now plan c x) (values_of x.noted) answer.pairs) is;
       installed = λ step k is. ap (shown_now plan c) (moved_client s.clients c _ lt) ∙ installed_shown plan c x parts here k is;
     }
+
+pub losses_are_stepped : LossesAreStepped
+unfolding lost
+losses_are_stepped plan s c x parts lt = ap (shown_now plan c) (moved_client s.clients c _ lt) ∙ next_shown plan c x

@@ -14,7 +14,7 @@ use Rattle.core_model.specs.declared.phase.Phase.{Phase}
 use Rattle.core_model.specs.declared.phase.Phase.TheVariants.{Ready, Locking, Aborting, Logged, Waiting, Installing, Finished}
 use Rattle.fabric_model.specs.ColdFacts.{FitsPhase}
 use Rattle.fabric_model.specs.State.{State}
-use Rattle.fabric_model.specs.Step.{has_hot, asked, holder, decided, logged, installed, asks_or_goes_on, next_op, client_step}
+use Rattle.fabric_model.specs.Step.{has_hot, asked, holder, decided, logged, installed, asks_or_goes_on, next_op, begins, client_step}
 use Rattle.client_phase.specs.declared.action.Action.TheVariants.{Lock, Decide, LogIntent, Install}
 use Rattle.client_phase.specs.ColdNumbers.{cold_count, cold_number, is_cold}
 use Rattle.client_phase.specs.Laws.{IsAtScript, IsAt, ActionsAreMoves}
@@ -89,20 +89,14 @@ module _ (plan : Plan) (s : State) (c : ℕ) (x : ClientState) (parts : Parts) (
       let lt : x.installed < cold_count parts ops = omega (arith, here.installs e, fits.0, count_is plan.layout ops parts here.sets) in
       ap (option_map (installed plan s c x)) (sym (step_is plan.layout ops parts x.reply x.installed here.sets (here.reply e) lt))
 
-  pub script_moves : (q : Phase) → x.phase ≡ q → client_step plan s c x q ≡ move_of plan s c x (script_action parts ops (shown_now plan c x) q)
-  script_moves Ready e = asks
-  script_moves Locking e = asks
-  script_moves Aborting e = refl
-  script_moves Logged e = refl
-  script_moves Waiting e = refl
-  script_moves Installing e = installs e
-  script_moves Finished e = refl
-
-nothing_left : (plan : Plan) (s : State) (c : ℕ) (x : ClientState) → script_now plan c x ≡ [] → x.noted ≡ [] → client_step plan s c x Ready ≡ None
-nothing_left plan s c x none free =
-    ap (asks_or_goes_on plan s c x) (slice_get_past (cold_ops plan.layout (script_now plan c x)) (length x.noted) (omega (arith, ap (λ (l : List Op). length (cold_ops plan.layout l)) none)))
-    ∙ ap (λ (b : Bool). if b then Some (logged plan s c x) else (if nat_lt 0 (length x.noted) then Some (decided plan s c x) else None)) (ap (has_hot plan) none)
-    ∙ ap (λ (n : ℕ). if nat_lt 0 n then Some (decided plan s c x) else None) (ap length free)
+  pub script_moves : (run : List Op) → item_of plan c x.seq ≡ Some (catalogue.Run run) → (q : Phase) → x.phase ≡ q → client_step plan s c x q ≡ move_of plan s c x (script_action parts ops (shown_now plan c x) q)
+  script_moves run is Ready e = ap (begins plan s c x) is ∙ asks
+  script_moves run is Locking e = asks
+  script_moves run is Aborting e = refl
+  script_moves run is Logged e = refl
+  script_moves run is Waiting e = refl
+  script_moves run is Installing e = installs e
+  script_moves run is Finished e = refl
 
 -- the operations of an item, where it is a script
 abbrev script_in_item : Option PlainItem → List Op
@@ -114,7 +108,7 @@ actions_are_moves plan s c x parts at = by (item_of plan c x.seq) refl at
     by : (o : Option PlainItem) → item_of plan c x.seq ≡ o → IsAt plan c x parts o → client_step plan s c x x.phase ≡ move_of plan s c x (next_action parts (shown_now plan c x) o)
     by (Some (catalogue.Run ops)) is here =
         let same : script_now plan c x ≡ ops = ap script_in_item is in
-        script_moves plan s c x parts here x.phase refl ∙ ap (λ (l : List Op). move_of plan s c x (script_action parts l (shown_now plan c x) x.phase)) same
+        script_moves plan s c x parts here ops is x.phase refl ∙ ap (λ (l : List Op). move_of plan s c x (script_action parts l (shown_now plan c x) x.phase)) same
     by (Some catalogue.Lose) is here =
-        ap (client_step plan s c x) here.0 ∙ nothing_left plan s c x (ap script_in_item is) here.1
+        ap (client_step plan s c x) here.0 ∙ ap (begins plan s c x) is
     by None is here = ap (client_step plan s c x) here

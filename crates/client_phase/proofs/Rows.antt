@@ -49,7 +49,7 @@ begins_shown rows ops items seq last = by (nat_le seq items)
     by true = refl
     by false = refl
 
-next_shown : (plan : Plan) (c : ℕ) (x : ClientState) → shown_now plan c (next_item plan c x) ≡ to.begins (length (items_of plan c)) (x.seq + 1) x.last
+pub next_shown : (plan : Plan) (c : ℕ) (x : ClientState) → shown_now plan c (next_item plan c x) ≡ to.begins (length (items_of plan c)) (x.seq + 1) x.last
 next_shown plan c x = begins_shown plan.layout (script_now plan c (next_item plan c x)) (length (items_of plan c)) (x.seq + 1) x.last
 
 -- what is shown by a test

@@ -23,7 +23,7 @@ use Rattle.fabric_model.specs.Laws.{IsReached}
 use Rattle.fabric_model.specs.State.{State, client_at}
 use Rattle.fabric_model.specs.Step as model
 use Rattle.client_phase.specs.declared.action.Action.{Action}
-use Rattle.client_phase.specs.declared.action.Action.TheVariants.{Lock, Release, Decide, LogIntent, Post, LogOutcome, Install}
+use Rattle.client_phase.specs.declared.action.Action.TheVariants.{Lock, Release, Decide, LogIntent, Post, LogOutcome, Install, Lose}
 use Rattle.client_phase.specs.declared.action.Met.{Met}
 use Rattle.client_phase.specs.declared.action.Met.TheVariants.{Granted, HeldBy, Answered, Done}
 use Rattle.client_phase.specs.ColdNumbers.{cold_count, cold_number, is_cold}
@@ -110,6 +110,10 @@ pub record AreStepped (plan : Plan) (s : State) (c : ℕ) (x : ClientState) (par
 
 abbrev pub RowsAreStepped : Type 0
 RowsAreStepped = (plan : Plan) (s : State) (c : ℕ) (x : ClientState) (parts : Parts) → c < length s.clients → IsAtScript plan c x parts → AreStepped plan s c x parts
+
+-- so is a loss of the switch
+abbrev pub LossesAreStepped : Type 0
+LossesAreStepped = (plan : Plan) (s : State) (c : ℕ) (x : ClientState) (parts : Parts) → c < length s.clients → Makes plan c x parts (model.lost plan s c x) Lose Done (shown_now plan c x)
 
 abbrev pub ClientsFitTheirScripts : Type 0
 ClientsFitTheirScripts = (plan : Plan) (s : State) (c : ℕ) (parts : Parts) → IsReached plan s → HasParts plan c (client_at s c) parts → ClientsFit plan s c parts

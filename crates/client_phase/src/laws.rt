@@ -1,7 +1,7 @@
 //! Laws on clients, each a function with an empty body whose contract is the law: what is kept of a client is
 //! what the client of the fabric's model shows.
 
-ghost use Rattle.client_phase.specs.Laws.{ActionsAreMoves, LocksAreTheModels, CommitsAreTheModels, PairsAreFound, ClientsFitTheirScripts, RowsAreStepped};
+ghost use Rattle.client_phase.specs.Laws.{ActionsAreMoves, LocksAreTheModels, CommitsAreTheModels, PairsAreFound, ClientsFitTheirScripts, RowsAreStepped, LossesAreStepped};
 
 /// What a client does next is its move in the model.
 pub fn actions_are_moves()
@@ -33,7 +33,8 @@ pub fn clients_fit_their_scripts()
 {}
 
 /// What is shown of a client behind each of its moves in the model is what its action makes of what was shown
-/// before.
+/// before, at a script and at a loss of the switch.
 pub fn moves_are_stepped()
-    ensures { RowsAreStepped }
+    ensures scripts { RowsAreStepped }
+    ensures losses { LossesAreStepped }
 {}

@@ -38,7 +38,7 @@ use Rattle.fabric_model.specs.Laws.{IsPast}
 use Rattle.fabric_model.specs.State.{State, client_at}
 use Rattle.fabric_model.specs.Step.{decided, has_hot, next_op}
 use Rattle.fabric_model.proofs.InOrder.{items_in_order, own_lower}
-use Rattle.fabric_model.proofs.Legal.{holds}
+use Rattle.fabric_model.proofs.Legal.{holds_now, facts_now}
 use Rattle.fabric_model.proofs.Runs.{reached_step}
 use Rattle.fabric_core.specs.Standing.{IsActionIn, IsRunner, Follows}
 use Rattle.fabric_core.specs.Steps.{HasStepped}
@@ -127,13 +127,13 @@ module _ {plan : Plan} {core : CoreState} {c at : ℕ} {item : PlainItem} {s : S
       all m n e = grind (arith, nat_tests)
 
   all_earlier : AllByRecursion (λ e. e.entry.client ≡ c → e.entry.seq < x.seq) s.history
-  all_earlier = each_own (λ q. q < x.seq) c s.history (earlier x (seqs_of c s.history) asking ((items_in_order plan (holds plan) s a.turn.reached).past c))
+  all_earlier = each_own (λ q. q < x.seq) c s.history (earlier x (seqs_of c s.history) asking ((items_in_order plan (holds_now plan) s a.turn.reached).past c))
 
   abbrev entry_now : Entry
   entry_now = record { stamp = y.last; client = c; seq = x.seq }
 
   above_now : IsAboveOwn entry_now s.history
-  above_now = both_facts s.history (λ e seq lower own. (seq own, lower own)) all_earlier (own_lower plan s (holds plan s a.turn.reached) c asking)
+  above_now = both_facts s.history (λ e seq lower own. (seq own, lower own)) all_earlier (own_lower plan s (holds_now plan s a.turn.reached) c asking)
 
   operations : ops_at core.history.runs c x.seq ≡ Some (length (script_now plan c x))
   operations = ap (λ (runs : Runs). ops_at runs c x.seq) a.turn.stands.runs ∙ ops_of_item plan c x.seq some
@@ -178,7 +178,7 @@ module _ {plan : Plan} {core : CoreState} {c at : ℕ} {item : PlainItem} {s : S
       pub is_last : IsOpenLast c new.state.seq entered.items
       is_last =
           subst (λ (h : Recorded). IsOpenLast c new.state.seq h.items) (sym put)
-          (open_last entry_of core.history.items (subst IsInStampOrder (sym a.turn.stands.history) (holds plan s a.turn.reached).ties.sorted) is_above)
+          (open_last entry_of core.history.items (subst IsInStampOrder (sym a.turn.stands.history) (facts_now plan s a.turn.reached).facts.sorted) is_above)
 
       pub has_pairs : ops_at entered.runs c new.state.seq ≡ Some (length new.state.pairs.items)
       has_pairs =

@@ -23,7 +23,7 @@ use Rattle.fabric_model.specs.Laws.{IsReached}
 use Rattle.fabric_model.specs.State.{State, client_at}
 use Rattle.fabric_model.proofs.InOrder.{HasIts, IsPastAt, desk_in, below_present, ordered}
 use Rattle.fabric_model.proofs.Kept.{some_hot}
-use Rattle.fabric_model.proofs.Legal.{holds}
+use Rattle.fabric_model.proofs.Legal.{holds_now, holds_up}
 use Rattle.fabric_core.proofs.Items.{each_own, ops_of_item}
 
 seq_of_packet : (plan : Plan) (c : ℕ) (x : ClientState) → (packet_now plan c x).seq ≡ x.seq
@@ -39,7 +39,7 @@ module _ (plan : Plan) (s : State) (reached : IsReached plan s) (c : ℕ) (now :
   x = client_at s c
 
   h : Holds plan s
-  h = holds plan s reached
+  h = holds_up plan s reached now up
 
   same_some : {T : Type 0} {a b : T} → Some a ≡ Some b → a ≡ b
   same_some e = cc
@@ -66,7 +66,7 @@ module _ (plan : Plan) (s : State) (reached : IsReached plan s) (c : ℕ) (now :
 
   earlier : AllByRecursion (λ e. e.entry.client ≡ c → e.entry.seq < x.seq) s.history
   earlier = each_own (λ q. q < x.seq) c s.history
-      (each_past (IsPastAt x (desk_in s.switch c)) (λ q. q < x.seq) (seqs_of c s.history) (below_present x (desk_in s.switch c) x (desk_in s.switch c) [] [] none_yet) ((ordered plan (holds plan) s reached).past c))
+      (each_past (IsPastAt x (desk_in s.switch c)) (λ q. q < x.seq) (seqs_of c s.history) (below_present x (desk_in s.switch c) x (desk_in s.switch c) [] [] none_yet) ((ordered plan (holds_now plan) s reached).past c))
 
   size : length (entered h.now) ≡ length now.flights
   size = length-map h.now.flights (λ (g : Flight). g.packet) ∙ ap (λ (w : Switch). length w.flights) here

@@ -31,3 +31,4 @@ pub mod SwitchSeen
 pub mod SwitchShown
 pub mod Takes
 pub mod Worlds
+pub mod NoLoss

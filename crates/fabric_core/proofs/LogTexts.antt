@@ -24,8 +24,8 @@ use Rattle.fabric_model.specs.Intents.{with_intent, with_outcome, intent_now}
 use Rattle.fabric_model.specs.Laws.{IsReached}
 use Rattle.fabric_model.specs.Recorded.{AreAnswers, HasRecords, has_open}
 use Rattle.fabric_model.specs.State.{Records, State, client_at, log_at}
-use Rattle.fabric_model.specs.Step.{step}
-use Rattle.fabric_model.proofs.AnsweredRecords.{records_answer}
+use Rattle.fabric_model.specs.Step.{recovers, step}
+use Rattle.fabric_model.proofs.Legal.{records_answer}
 use Rattle.fabric_model.proofs.PerClient.{logs_stay}
 use Rattle.fabric_model.proofs.Present.{clients_stay}
 use Rattle.fabric_core.specs.CoreTurns.{IsTurnOf, Moves, turn_after}
@@ -219,6 +219,6 @@ turned_beside plan s actor same_actor before after rack false turn whose reached
     (subst (IsTurnOf plan s same_actor before after rack rack) (sym is) rests)
 
 -- the switch isn't lost
-pub recover_rests : (plan : Plan) (s : State) → step plan s Recover ≡ None
+pub recover_rests : (plan : Plan) (s : State) (now : Switch) → s.switch ≡ Some now → step plan s Recover ≡ None
 unfolding step
-recover_rests plan s = refl
+recover_rests plan s now up = ap (recovers plan s) up

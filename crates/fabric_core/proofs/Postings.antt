@@ -36,7 +36,7 @@ use Rattle.fabric_model.specs.Laws.{IsReached}
 use Rattle.fabric_model.specs.Recorded.{HasRecords, has_open}
 use Rattle.fabric_model.specs.State.{State, client_at, log_at}
 use Rattle.fabric_model.specs.Step.{has_hot, posted}
-use Rattle.fabric_model.proofs.AnsweredRecords.{records_answer}
+use Rattle.fabric_model.proofs.Legal.{records_answer}
 use Rattle.fabric_model.proofs.Fitting.{packets_are_planned, packets_have_ranges}
 use Rattle.fabric_model.proofs.PerClient.{logs_stay}
 use Rattle.fabric_core.specs.Standing.{IsActionIn, IsLog, Follows}

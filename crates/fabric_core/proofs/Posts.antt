@@ -13,7 +13,7 @@ use Rattle.fabric_model.specs.Intents.{packet_now}
 use Rattle.fabric_model.specs.Laws.{IsReached}
 use Rattle.fabric_model.specs.State.{State, client_at}
 use Rattle.fabric_model.specs.Step.{has_hot}
-use Rattle.fabric_model.proofs.Legal.{holds}
+use Rattle.fabric_model.proofs.Legal.{holds_up, facts_now}
 
 pub client_of_packet : (plan : Plan) (c : ℕ) (x : ClientState) → (packet_now plan c x).client ≡ c
 unfolding packet_from
@@ -24,7 +24,7 @@ module _ (plan : Plan) (s : State) (reached : IsReached plan s) (c : ℕ) (now :
   x = client_at s c
 
   h : Holds plan s
-  h = holds plan s reached
+  h = holds_up plan s reached now up
 
   same_some : {T : Type 0} {a b : T} → Some a ≡ Some b → a ≡ b
   same_some e = cc
@@ -56,4 +56,4 @@ module _ (plan : Plan) (s : State) (reached : IsReached plan s) (c : ℕ) (now :
 
 -- the packet of a client that waits has an operation in the switch
 pub has_hot_waiting : (plan : Plan) (s : State) → IsReached plan s → (c : ℕ) → (client_at s c).phase ≡ Waiting → has_hot plan (script_now plan c (client_at s c)) ≡ true
-has_hot_waiting plan s reached c waiting = (holds plan s reached).ties.hot_ones c (inr waiting)
+has_hot_waiting plan s reached c waiting = (facts_now plan s reached).facts.hot_ones c (inr waiting)

@@ -213,7 +213,7 @@ stands_redrafted stands draft room = record {
 pub redrafted : {plan : Plan} {core : CoreState} {c at : ℕ} {present : PlainItem} {action : Action} {s : State} → IsActionIn plan core c at present action s → (draft : Draft) → HasDraftRoom draft
     → IsActionIn plan (record core { draft = draft }) c at present action s
 redrafted a draft room = record {
-  turn = record { reached = a.turn.reached; stands = stands_redrafted a.turn.stands draft room; within = a.turn.within; moves = a.turn.moves };
+  turn = record { reached = a.turn.reached; stands = stands_redrafted a.turn.stands draft room; within = a.turn.within; losses = a.turn.losses; moves = a.turn.moves };
   item = a.item;
   next = a.next;
 }

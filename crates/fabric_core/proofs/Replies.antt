@@ -31,7 +31,7 @@ use Rattle.fabric_model.proofs.CarriedLaws.{with_reply-split}
 use Rattle.fabric_model.proofs.InOrder.{IsPastAt, desk_in, ordered}
 use Rattle.fabric_model.proofs.JoinedSteps.{length-joined_from, length-packet}
 use Rattle.fabric_model.proofs.Kept.{some_hot, visit_of}
-use Rattle.fabric_model.proofs.Legal.{holds}
+use Rattle.fabric_model.proofs.Legal.{holds_now, holds_up}
 use Rattle.fabric_model.proofs.Numbers.{Pending, pending_at}
 use Rattle.fabric_core.proofs.Items.{Around, around, is_last, ops_of_item, replied_around}
 
@@ -70,7 +70,7 @@ module _ (plan : Plan) (s : State) (reached : IsReached plan s) (c : ℕ) (now :
   x = client_at s c
 
   h : Holds plan s
-  h = holds plan s reached
+  h = holds_up plan s reached now up
 
   here : h.now ≡ now
   here = same_some (sym h.up ∙ up)
@@ -103,14 +103,14 @@ module _ (plan : Plan) (s : State) (reached : IsReached plan s) (c : ℕ) (now :
   split = around s.history entry waits.1
 
   up_here : IsAscending (seqs_of c (split.before ++ entry ∷ split.behind))
-  up_here = subst (λ (l : History). IsAscending (seqs_of c l)) split.whole ((ordered plan (holds plan) s reached).ascending c)
+  up_here = subst (λ (l : History). IsAscending (seqs_of c l)) split.whole ((ordered plan (holds_now plan) s reached).ascending c)
 
   at_most : (q : ℕ) → IsPastAt x (desk_in s.switch c) q → q ≤ x.seq
   at_most q (inl lt) = omega (arith, lt)
   at_most q (inr p) = omega (arith, p.0)
 
   most_here : AllByRecursion (λ q. q ≤ x.seq) (seqs_of c (split.before ++ entry ∷ split.behind))
-  most_here = subst (λ (l : History). AllByRecursion (λ q. q ≤ x.seq) (seqs_of c l)) split.whole (each_past (IsPastAt x (desk_in s.switch c)) (λ q. q ≤ x.seq) (seqs_of c s.history) at_most ((ordered plan (holds plan) s reached).past c))
+  most_here = subst (λ (l : History). AllByRecursion (λ q. q ≤ x.seq) (seqs_of c l)) split.whole (each_past (IsPastAt x (desk_in s.switch c)) (λ q. q ≤ x.seq) (seqs_of c s.history) at_most ((ordered plan (holds_now plan) s reached).past c))
 
   -- the client's last entry is that of its present item, and unanswered
   pub is_open : IsOpenLast c x.seq s.history

@@ -1,22 +1,25 @@
 -- What a client whose turn it is does.
-use Rattle.std.proofs.Common.{◌≡◌, ◌⊎◌, ℕ, zero, suc, ◌<◌, List, [], ◌∷◌, length, get_or, Option, Some, None, inl, inr, refl, sym, ap, subst, ◌∙◌, arith}
+use Rattle.std.proofs.Common.{◌≡◌, ◌⊎◌, ℕ, zero, suc, ◌<◌, nat_lt, Bool, true, false, if◌then◌else◌, List, [], ◌∷◌, length, get_or, Option, Some, None, inl, inr, refl, sym, ap, subst, ◌∙◌, arith}
 use Rattle.catalogue.specs.Plan as catalogue
 use Rattle.catalogue.specs.Plan.{Plan, PlainItem, item_of}
 use Rattle.catalogue.specs.declared.actor.Actor.TheVariants.{Client}
+use Rattle.warm_split.specs.declared.parts.Parts.{Parts}
+use Rattle.core_model.specs.declared.phase.Phase.{Phase}
+use Rattle.core_model.specs.declared.phase.Phase.TheVariants.{Ready, Locking, Aborting, Logged, Waiting, Installing, Finished}
 use Rattle.core_model.specs.State.{ClientState}
+use Rattle.client_phase.specs.ColdNumbers.{cold_count, cold_number, is_cold}
 use Rattle.client_phase.specs.Fits.{Fits, FitsAny, HasNoFault}
 use Rattle.client_phase.specs.Laws.{IsAt}
-use Rattle.client_phase.specs.Moves.{move_of}
-use Rattle.client_phase.specs.NextAction.{next_action}
-use Rattle.client_phase.specs.Shown.{plain_client, shown_now}
+use Rattle.client_phase.specs.NextAction.{next_action, script_action}
+use Rattle.client_phase.specs.Shown.{PlainClient, plain_client, shown_now}
 use Rattle.client_phase.specs.declared.action.Action.{Action}
-use Rattle.client_phase.specs.declared.action.Action.TheVariants.{Lose, Rest}
-use Rattle.client_phase.proofs.NextMoves.{actions_are_moves}
+use Rattle.client_phase.specs.declared.action.Action.TheVariants.{Lock, Decide, LogIntent, Lose, Rest}
 use Rattle.fabric_model.specs.State.{State, client_at}
 use Rattle.fabric_model.specs.Step.{client_step, step}
 use Rattle.fabric_core.specs.Standing.{IsActionIn, IsTurnIn}
 use Rattle.fabric_core.specs.declared.core_state.CoreState.{CoreState}
 use Rattle.fabric_core.specs.declared.runner.Runner.{Runner}
+use Rattle.fabric_core.proofs.NoLoss.{no_loss}
 use Rattle.fabric_core.proofs.Present as present
 
 -- within a list the default is never read
@@ -24,6 +27,25 @@ any_default : (xs : List Runner) (i : ℕ) (d e : Runner) → i < length xs → 
 any_default [] i d e lt = absurd (omega arith)
 any_default (x ∷ xs) zero d e lt = refl
 any_default (x ∷ xs) (suc i) d e lt = any_default xs i d e (omega arith)
+
+-- only at a loss is a client's next action to lose the switch
+loses : (parts : Parts) (p : PlainClient) (item : PlainItem) → next_action parts p (Some item) ≡ Lose → item ≡ catalogue.Lose
+loses parts p catalogue.Lose e = refl
+loses parts p (catalogue.Run ops) e = absurd (never p.phase e)
+  where
+    lock : (b d : Bool) (k : ℕ) → (if b then Lock k else (if d then Decide else LogIntent)) ≡ Lose → ⊥
+    lock true d k i = cc
+    lock false true k i = cc
+    lock false false k i = cc
+
+    never : (q : Phase) → script_action parts ops p q ≡ Lose → ⊥
+    never Ready i = lock (nat_lt p.locked (cold_count parts ops)) (is_cold parts ops) (cold_number parts ops p.locked) i
+    never Locking i = lock (nat_lt p.locked (cold_count parts ops)) (is_cold parts ops) (cold_number parts ops p.locked) i
+    never Aborting i = cc
+    never Logged i = cc
+    never Waiting i = cc
+    never Installing i = cc
+    never Finished i = cc
 
 module _ {plan : Plan} {core : CoreState} {c at : ℕ} {s : State} (turn : IsTurnIn plan core (Client c) at s) {r : Runner} (here : r ≡ get_or core.runners.items c r) where
   abbrev x : ClientState
@@ -41,10 +63,9 @@ module _ {plan : Plan} {core : CoreState} {c at : ℕ} {s : State} (turn : IsTur
       let finished = subst (IsAt plan c x r.parts) (item_now is) (present.clients_fit turn here).at in
       present.step_here turn ∙ ap (client_step plan s c x) finished
 
+  -- the session has no loss
   pub rests_lost : Some catalogue.Lose ≡ item_of plan c r.state.seq → step plan s (Client c) ≡ None
-  rests_lost is =
-      present.step_here turn ∙ actions_are_moves plan s c x r.parts (present.clients_fit turn here).at
-      ∙ ap (λ (o : Option PlainItem). move_of plan s c x (next_action r.parts (shown_now plan c x) o)) (item_now is)
+  rests_lost is = absurd (no_loss plan c x.seq turn.losses (item_now is))
 
   module _ {item : PlainItem} (is : Some item ≡ item_of plan c r.state.seq) where
     fits_any : FitsAny r.parts (shown_now plan c x) (Some item)
@@ -69,5 +90,5 @@ module _ {plan : Plan} {core : CoreState} {c at : ℕ} {s : State} (turn : IsTur
 
     -- where it has nothing to do it doesn't move
     pub rests : {result : Action} → result ≡ next_action r.parts (plain_client r.state) (Some item) → (result ≡ Lose) ⊎ (result ≡ Rest) → step plan s (Client c) ≡ None
-    rests chosen (inl is_lost) = present.step_is (acts chosen is_lost) here
+    rests chosen (inl is_lost) = absurd (no_loss plan c x.seq turn.losses (item_now is ∙ ap Some (loses r.parts (plain_client r.state) item (sym chosen ∙ is_lost))))
     rests chosen (inr is_rest) = present.step_is (acts chosen is_rest) here

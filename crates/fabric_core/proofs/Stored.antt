@@ -22,8 +22,8 @@ use Rattle.core_model.proofs.Opening.{first_value}
 use Rattle.fabric_model.specs.Laws.{IsReached}
 use Rattle.fabric_model.specs.Run.{opening, host_rows}
 use Rattle.fabric_model.specs.State.{State, client_at}
-use Rattle.fabric_model.specs.Step.{granted, refused, released, decided, logged, posted, taken, installed, switched, entered, behind_entry}
-use Rattle.fabric_model.proofs.MoveKinds.{Move, Grants, Refuses, Releases, Decides, Logs, Posts, Takes, Installs, Moved, ByClient, AtPort, AtStage, move_of}
+use Rattle.fabric_model.specs.Step.{lost, granted, refused, released, decided, logged, posted, taken, installed, switched, entered, behind_entry, recovered}
+use Rattle.fabric_model.proofs.MoveKinds.{Move, Loses, Grants, Refuses, Releases, Decides, Logs, Posts, Takes, Installs, Moved, ByClient, AtPort, AtStage, Recovers, move_of}
 use Rattle.fabric_model.proofs.Runs.{of_reached}
 use Rattle.fabric_core.proofs.ColdOps.{IsCold, cold_op_at, cold_there, in_session}
 
@@ -88,7 +88,8 @@ record IsStored (plan : Plan) (s : State) (c : ℕ) (after : State) : Type 0 whe
   pub store : after.store ≡ stores.installed s.store done.0.tuple done.1.now (client_at s c).last
 
 store_moved : (plan : Plan) (s : State) (c : ℕ) (after : State) → Move plan s c after → (after.store ≡ s.store) ⊎ IsStored plan s c after
-unfolding granted refused released decided logged posted taken installed
+unfolding lost granted refused released decided logged posted taken installed
+store_moved plan s c after (Loses now phase item up is) = inl (ap (λ (z : State). z.store) is)
 store_moved plan s c after (Grants op asks next free is) = inl (ap (λ (z : State). z.store) is)
 store_moved plan s c after (Refuses op by asks next held is) = inl (ap (λ (z : State). z.store) is)
 store_moved plan s c after (Releases phase is) = inl (ap (λ (z : State). z.store) is)
@@ -125,10 +126,11 @@ kept_by_client plan s c after sound all move t = elim (store_moved plan s c afte
         by true e old seen = sym (ap (λ (n : ℕ). is_on_host plan (record { 0 = n })) (equal t.0 put.done.0.tuple.0 (sym e)) ∙ here)
 
 kept : (plan : Plan) (s after : State) (actor : Actor) → IsSound plan → HasHostTuples plan s → Moved plan s after actor → HasHostTuples plan after
-unfolding switched
+unfolding switched recovered
 kept plan s after actor sound all (ByClient c within move) = kept_by_client plan s c after sound all move
 kept plan s after actor sound all (AtPort c now next up to is) = λ t. ap (λ (z : State). is_some (fin.get z.store t)) is ∙ ap (λ (m : Store). is_some (fin.get m t)) (store_at_port s c (desk_at now c) (next_number now) next) ∙ all t
 kept plan s after actor sound all (AtStage x now next up to is) = λ t. ap (λ (z : State). is_some (fin.get z.store t)) is ∙ all t
+kept plan s after actor sound all (Recovers order down found is) = λ t. ap (λ (z : State). is_some (fin.get z.store t)) is ∙ all t
 
 pub stored_same : (plan : Plan) (s : State) → IsReached plan s → (t : TupleId) → is_some (fin.get s.store t) ≡ is_on_host plan t
 stored_same plan s reached = of_reached plan (HasHostTuples plan) (at_opening plan) (λ z next actor r all is. kept plan z next actor r.sound all (move_of plan z actor next is)) s reached

@@ -19,7 +19,7 @@ use Rattle.pipeline.proofs.Shown.{register_is, shape_is, slot_is}
 use Rattle.catalogue.specs.Plan.{Plan, hot_cells}
 use Rattle.fabric_model.specs.Laws.{IsReached, register_in, tuple_now, value_in}
 use Rattle.fabric_model.specs.State.{State}
-use Rattle.fabric_model.proofs.Legal.{holds}
+use Rattle.fabric_model.proofs.Legal.{holds_up}
 use Rattle.fabric_model.proofs.MovesLeft.{same_switch}
 use Rattle.fabric_core.specs.Slots.{slot_in, slot_now}
 use Rattle.fabric_core.specs.Standing.{StandsFor}
@@ -32,7 +32,7 @@ module _ (plan : Plan) (s : State) (core : CoreState) (reached : IsReached plan 
   pub slot_shown : (x : ℕ) → option_map (λ (f : PlainFlight). f.packet.client) (in_slot core.pipeline x) ≡ slot_now s x
   slot_shown x =
       let now = stands.switch.now in
-      let h = holds plan s reached in
+      let h = holds_up plan s reached now stands.switch.up in
       let run = subst (machine.IsReached plan.shape (hot_cells plan)) (same_switch h.up stands.switch.up) h.reached in
       ap (option_map (λ (f : PlainFlight). f.packet.client)) (slot_is plan.shape (hot_cells plan) core.pipeline now x run stands.switch.shows)
       ∙ seen (position (is_in_slot x) now.flights)

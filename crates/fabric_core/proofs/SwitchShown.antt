@@ -28,7 +28,7 @@ use Rattle.fabric_model.specs.State.{State, client_at}
 use Rattle.fabric_model.proofs.Present.{clients_stay}
 use Rattle.fabric_model.specs.Step as model
 use Rattle.fabric_model.specs.Step.{step, switched, behind_entry}
-use Rattle.fabric_model.proofs.Legal.{holds}
+use Rattle.fabric_model.proofs.Legal.{holds_up}
 use Rattle.fabric_core.specs.Standing.{StandsFor, IsRunner, Follows}
 use Rattle.fabric_core.specs.declared.runner.Runner.{Runner}
 use Rattle.fabric_core.specs.declared.core_state.CoreState.{CoreState}
@@ -72,7 +72,7 @@ pass_is_not_one pass waits b same test is one = let clash : false ≡ true = sym
 
 -- a reached state's switch is one that its machine reaches
 pub switch_reached : (plan : Plan) (s : State) → IsReached plan s → (now : Switch) → s.switch ≡ Some now → machine.IsReached plan.shape (hot_cells plan) now
-switch_reached plan s reached now up = subst (machine.IsReached plan.shape (hot_cells plan)) (same_some (sym (holds plan s reached).up ∙ up)) (holds plan s reached).reached
+switch_reached plan s reached now up = subst (machine.IsReached plan.shape (hot_cells plan)) (same_some (sym (holds_up plan s reached now up).up ∙ up)) (holds_up plan s reached now up).reached
 
 -- no more packets have entered it than there are items
 pub few_packets : (plan : Plan) (s : State) → IsReached plan s → (now : Switch) → s.switch ≡ Some now → length now.flights ≤ 4096

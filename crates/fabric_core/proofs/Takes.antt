@@ -19,7 +19,8 @@ use Rattle.fabric_model.specs.Run.{opening, state_of}
 use Rattle.fabric_model.specs.State.{State}
 use Rattle.fabric_model.specs.Step.{step}
 use Rattle.fabric_model.proofs.Driven.{finished_by_test, reached_turns, round_of, state_of_parts}
-use Rattle.fabric_model.proofs.Legal.{holds}
+use Rattle.fabric_model.proofs.Either.{fits_now}
+use Rattle.fabric_model.proofs.Legal.{holds_now}
 use Rattle.fabric_model.proofs.Turns.{behind_turns, driven_parts, movers-append, movers_done, turns_are}
 use Rattle.fabric_core.specs.Racks.{Rack, StaysFrom}
 use Rattle.fabric_core.specs.Running.{Running, state_in, stopped, taken, with_moves}
@@ -288,7 +289,7 @@ listed_next actors i d lt = drop-cons actors i d lt ∙ ap (λ (k : ℕ). get_or
 -- where the rota is taken again and again, taking it once more first changes nothing
 round_on : (plan : Plan) (s : State) → has_no_loss plan ≡ true → IsReached plan s → all_finished s ≡ false → driven_from plan s [] ≡ movers plan s (rota plan) ++ driven_from plan (after_turns plan s (rota plan)) []
 round_on plan s losses reached more =
-    let round : IsRound plan s = round_of plan (holds plan) losses s reached more in
+    let round : IsRound plan s = round_of plan (fits_now plan (holds_now plan)) (holds_now plan) s reached more in
     round.driven ∙ ap (λ (z : State). movers plan s (rota plan) ++ driven_from plan z []) (sym (turns_are plan s round.next (rota plan) round.run))
 
 driven_done : (plan : Plan) (s : State) → all_finished s ≡ true → driven_from plan s [] ≡ []
@@ -326,7 +327,7 @@ module _ {R : Type 0} (old now next : Running R) (first before after : Rack) (b 
   driving_lessens t =
       let plan = now.plan in
       let s = state_in now in
-      let round : IsRound plan s = round_of plan (holds plan) is.run.losses s is.run.reached (finished_test s b test ∙ more) in
+      let round : IsRound plan s = round_of plan (fits_now plan (holds_now plan)) (holds_now plan) s is.run.reached (finished_test s b test ∙ more) in
       subst (λ (r : Running R). moves_left r.plan (state_in r) < moves_left plan s) (sym t.takes.0)
       (subst (λ (z : State). moves_left plan z < moves_left plan s) (sym (taken_state now (rota plan) next.rack is.run ∙ turns_are plan s round.next (rota plan) round.run)) round.fewer)
 

@@ -11,7 +11,8 @@ use Rattle.fabric_model.specs.Driven.{has_no_loss}
 use Rattle.fabric_model.specs.Laws.{IsReached}
 use Rattle.fabric_model.specs.Run.{opening, state_of, state_now}
 use Rattle.fabric_model.specs.State.{State, log_at, no_records}
-use Rattle.fabric_model.proofs.Legal.{holds}
+use Rattle.fabric_model.proofs.Either.{fits_now}
+use Rattle.fabric_model.proofs.Legal.{holds_now, holds_up}
 use Rattle.fabric_model.proofs.MovesLeft.{fewer_moves, moves_bounded}
 use Rattle.fabric_model.proofs.Runs.{moves_are_the_trace, one_more}
 use Rattle.fabric_model.proofs.SmallBounds.{small_bound}
@@ -73,7 +74,7 @@ module _ {session plan : Plan} {faults : ℕ} {Kept : Type 0} {core : CoreState}
   pub is_short : length trace.items ≤ 2039808
   is_short =
       let s = state_now plan trace.items in
-      omega (arith, moves_bounded plan (holds plan) s is_reached, small_bound plan kept.sound, moves_are_the_trace plan trace.items s kept.run)
+      omega (arith, moves_bounded plan (fits_now plan (holds_now plan)) (holds_up plan) s is_reached, small_bound plan kept.sound, moves_are_the_trace plan trace.items s kept.run)
 
   -- each actor can take its turn
   pub its_turn : (actor : Actor) (at : ℕ) → IsActor plan actor → at ≡ length trace.items → IsTurnIn plan core actor at (state_now plan trace.items)
@@ -81,6 +82,7 @@ module _ {session plan : Plan} {faults : ℕ} {Kept : Type 0} {core : CoreState}
     reached = is_reached;
     stands = kept.stands;
     within = within;
+    losses = kept.losses;
     moves = moves_are_the_trace plan trace.items (state_now plan trace.items) kept.run ∙ sym is;
   }
 
@@ -88,7 +90,7 @@ module _ {session plan : Plan} {faults : ℕ} {Kept : Type 0} {core : CoreState}
   pub has_room : (actor : Actor) (after : CoreState) (new : Rack) → Moves plan (state_now plan trace.items) actor after rack new → 1 ≤ trace.spare
   has_room actor after new m =
       let s = state_now plan trace.items in
-      omega (arith, moves_are_the_trace plan trace.items s kept.run, moves_bounded plan (holds plan) s is_reached, fewer_moves plan (holds plan) s m.follows.next actor is_reached m.follows.step, kept.space)
+      omega (arith, moves_are_the_trace plan trace.items s kept.run, moves_bounded plan (fits_now plan (holds_now plan)) (holds_up plan) s is_reached, fewer_moves plan (fits_now plan (holds_now plan)) (holds_up plan) s m.follows.next actor is_reached m.follows.step, kept.space)
 
   -- the state behind an actor's move
   moved_to : (actor : Actor) (after : CoreState) (follows : Follows plan (state_now plan trace.items) actor after) → state_of plan (trace.items ++ actor ∷ []) ≡ Some follows.next

@@ -1,5 +1,5 @@
 -- When what the code keeps of a run stands for a state of the model.
-use Rattle.std.specs.Prelude.{◌≡◌, ◌<◌, ◌≤◌, ◌+◌, ◌*◌, ◌&&◌, ℕ, List, length, not, is_some, slice_index_or, Option, Some}
+use Rattle.std.specs.Prelude.{◌≡◌, ◌<◌, ◌≤◌, ◌+◌, ◌*◌, ◌&&◌, ℕ, List, length, not, true, is_some, slice_index_or, Option, Some}
 use Rattle.std.specs.FinMap as fin
 use Rattle.txn_model.specs.declared.op.TupleId.{TupleId}
 use Rattle.stage_layout.specs.Late.{is_hot}
@@ -18,6 +18,7 @@ use Rattle.history_core.specs.Runs.{runs_of}
 use Rattle.client_phase.specs.NextAction.{next_action}
 use Rattle.client_phase.specs.Shown.{plain_client, room_of, shown}
 use Rattle.client_phase.specs.declared.action.Action.{Action}
+use Rattle.fabric_model.specs.Driven.{has_no_loss}
 use Rattle.fabric_model.specs.Laws.{IsReached}
 use Rattle.fabric_model.specs.State.{Records, State, client_at, no_records}
 use Rattle.fabric_model.specs.Step.{step}
@@ -72,11 +73,13 @@ pub record StandsFor (plan : Plan) (s : State) (core : CoreState) : Type 0 where
   pub refused : plan.tries * item_count plan ≤ length core.refusals.items + core.refusals.spare
   pub draft : HasDraftRoom core.draft
 
--- it is the turn of one of the session's actors, and the code stands for a state that is reached, behind this many moves
+-- it is the turn of one of the actors of a session without losses, and the code stands for a state that is reached, behind this many
+-- moves
 pub record IsTurnIn (plan : Plan) (core : CoreState) (actor : Actor) (at : ℕ) (s : State) : Type 0 where
   pub reached : IsReached plan s
   pub stands : StandsFor plan s core
   pub within : IsActor plan actor
+  pub losses : has_no_loss plan ≡ true
   pub moves : s.moves ≡ at
 
 -- it is the turn of a client at this item, and this is its next action

@@ -30,8 +30,8 @@ use Rattle.core_model.proofs.Fewer.{OthersStay}
 use Rattle.core_model.proofs.Stamps.{below_of}
 use Rattle.fabric_model.specs.Carried.{carried, IsPending, IsCarriedBy, AreCarriedBy}
 use Rattle.fabric_model.specs.ColdFacts.{FitsPhase, ColdFacts}
-use Rattle.fabric_model.specs.Holds.{answered_ones}
 use Rattle.fabric_model.specs.Intents.{values_of}
+use Rattle.fabric_model.specs.State.{answered_ones}
 use Rattle.fabric_model.specs.Step.{answered_entry, with_reply}
 use Rattle.fabric_model.proofs.Answering.{kept_by_answer}
 use Rattle.fabric_model.proofs.CarriedLaws.{carried_by_each, carried-with_reply, answered_ones-with_reply}

@@ -1,5 +1,5 @@
 -- Each outcome of a client's log answers the intent at its place, and the intent of its present item is open until then.
-use Rattle.std.proofs.Common.{◌≡◌, ◌≢◌, ◌⊎◌, ℕ, zero, suc, ◌+◌, ◌-◌, ◌<◌, ◌≤◌, ◌==◌, nat_le, Bool, true, false, List, [], ◌∷◌, ◌++◌, append-nil, map, length, take, set, get_or, slice_get, Option, Some, IsSome, inl, inr, refl, sym, ap, subst, ◌∙◌, arith, if◌then◌else◌}
+use Rattle.std.proofs.Common.{◌≡◌, ◌≢◌, ◌⊎◌, ℕ, zero, suc, ◌+◌, ◌-◌, ◌<◌, ◌≤◌, ◌==◌, nat_le, Bool, true, false, List, [], ◌∷◌, ◌++◌, append-nil, map, length, take, set, get_or, slice_get, Option, Some, None, IsSome, inl, inr, refl, sym, ap, subst, ◌∙◌, arith, if◌then◌else◌}
 use Rattle.std.specs.List.{AllByRecursion}
 use Rattle.std.proofs.lemmas.Bool.Decides.{nat_tests}
 use Rattle.std.proofs.lemmas.List.{map-append}
@@ -12,7 +12,8 @@ use Rattle.host_store.specs.Store.{seen_at}
 use Rattle.warm_split.specs.Joined.{joined}
 use Rattle.switch_packet.specs.Packets.{PlainPacket, PlainIntent, PlainOutcome}
 use Rattle.switch_packet.specs.Replay.{replay_all}
-use Rattle.switch_model.specs.Switch.{Switch, Answer, Desk, Vacant, Posted, Entered, desk_at, next_number, entered, answer_of}
+use Rattle.placement_model.specs.Placements.{Task, IsPlacement, packets_of}
+use Rattle.switch_model.specs.Switch.{Switch, restored, Answer, Desk, Vacant, Posted, Entered, desk_at, next_number, entered, answer_of}
 use Rattle.warm_split.specs.Resolved.{packet_from}
 use Rattle.catalogue.specs.Plan.{Plan, PlainItem, items_of, hot_cells}
 use Rattle.catalogue.specs.declared.actor.Actor.{Actor}
@@ -34,30 +35,33 @@ use Rattle.fabric_model.specs.Intents.{values_of, packet_now, intent_now, with_i
 use Rattle.fabric_model.specs.Laws.{IsReached, HasEntry, AnswersStand}
 use Rattle.fabric_model.specs.Recorded.{has_open, open_intent, IsAnswer, AreAnswers, IsTold, seqs_in, HasRecords}
 use Rattle.fabric_model.specs.Run.{opening}
-use Rattle.fabric_model.specs.State.{Records, State, client_at, log_at, no_records}
-use Rattle.fabric_model.specs.Step.{granted, refused, released, decided, logged, posted, taken, installed, switched, replied, behind_entry, with_reply, step}
+use Rattle.fabric_model.specs.Recovery.{plain_logs, desks_from, waits_again, resumed, filled}
+use Rattle.fabric_model.specs.State.{Records, State, client_at, log_at, no_records, answered_ones}
+use Rattle.fabric_model.specs.Step.{lost, recovered, order_now, granted, refused, released, decided, logged, posted, taken, installed, switched, replied, behind_entry, with_reply, step}
 use Rattle.fabric_model.specs.Step as fabric
+use Rattle.fabric_model.proofs.Assembled.{open_entry, all_filled}
 use Rattle.fabric_model.proofs.CarriedLaws.{with_reply-split}
 use Rattle.fabric_model.proofs.FromCore.{ascending_last}
 use Rattle.fabric_model.proofs.Growing.{Grows, grows_of, still_at, still_replayed}
 use Rattle.fabric_model.proofs.KeptByDecision.{number_of_greatest}
-use Rattle.fabric_model.proofs.Legal.{holds}
-use Rattle.fabric_model.proofs.MoveKinds.{Move, Grants, Refuses, Releases, Decides, Logs, Posts, Takes, Installs, Moved, ByClient, AtPort, AtStage, move_of}
+use Rattle.fabric_model.proofs.MoveKinds.{Move, Loses, Grants, Refuses, Releases, Decides, Logs, Posts, Takes, Installs, Moved, ByClient, AtPort, AtStage, Recovers}
 use Rattle.fabric_model.proofs.MovesLeft.{same_switch}
 use Rattle.fabric_model.proofs.Numbers.{front}
 use Rattle.fabric_model.proofs.PerClient.{LogBecomes, client_now, client_then, log_now, log_then, logs_stay, logs_at_port, logs_at_stage, on_aborting}
 use Rattle.fabric_model.proofs.Present.{reply_to, stamp_of, clients_at_port, clients_at_stage}
-use Rattle.fabric_model.proofs.Runs.{of_reached}
+use Rattle.fabric_model.proofs.Losing.{kept_answered}
+use Rattle.fabric_model.proofs.RecordsRecovered.{answers_recovered}
+use Rattle.fabric_model.proofs.Resumed.{client_again}
 use Rattle.fabric_model.proofs.Stand.{answers_stand}
 use Rattle.fabric_model.proofs.TakenAnswer.{taken_answer}
 
 -- ---- what is kept
 
 -- the item is before the client's present one, or it is that one and its answer has come
-abbrev IsBefore : ClientState → ℕ → Type 0
+abbrev pub IsBefore : ClientState → ℕ → Type 0
 IsBefore x q = (q < x.seq) ⊎ ((q ≡ x.seq) × (x.phase ≡ Installing))
 
-record Kept (plan : Plan) (h : History) (switch : Option Switch) (c : ℕ) (x : ClientState) (log : Records) : Type 0 where
+pub record Kept (plan : Plan) (h : History) (switch : Option Switch) (c : ℕ) (x : ClientState) (log : Records) : Type 0 where
   pub answered : List PlainIntent
   pub intents : log.intents ≡ answered ++ open_intent plan c x
   pub outcomes : AreAnswers plan h switch c answered log.outcomes
@@ -78,6 +82,7 @@ answer_stays : (plan : Plan) (h new : History) (before after : Option Switch) (c
 answer_stays plan h new before after c intent outcome stand grows a = record {
   seq = a.seq;
   above = a.above;
+  hot = a.hot;
   values = a.values;
   packet = a.packet;
   entry = entry_stays h new _ stand refl a.entry;
@@ -113,10 +118,12 @@ told_more c outcomes more (e ∷ h) all = ((λ own carried some. let t = all.0 o
 
 data Changes (s : State) (after : State) : Type 0 where
   Stays : after.history ≡ s.history → Changes s after
+  Drops : after.history ≡ answered_ones s.history → Changes s after
   Adds : (e : HistoryEntry) → after.history ≡ with_entry e s.history → (is_carried e ≡ true → IsSome e.pairs → ⊥) → Changes s after
 
 told_changed : (s after : State) (d : ℕ) (outcomes : List PlainOutcome) → Changes s after → AllByRecursion (IsTold d outcomes) s.history → AllByRecursion (IsTold d outcomes) after.history
 told_changed s after d outcomes (Stays same) all = subst (AllByRecursion (IsTold d outcomes)) (sym same) all
+told_changed s after d outcomes (Drops is) all = subst (AllByRecursion (IsTold d outcomes)) (sym is) (kept_answered (IsTold d outcomes) s.history all)
 told_changed s after d outcomes (Adds e is none) all = subst (AllByRecursion (IsTold d outcomes)) (sym is) (all-with_entry (IsTold d outcomes) e s.history all (λ own carried some. absurd (none carried some)))
 
 split_told : (P : HistoryEntry → Type 0) (before : History) (e f : HistoryEntry) (behind : History) → AllByRecursion P (before ++ e ∷ behind) → P f → AllByRecursion P (before ++ f ∷ behind)
@@ -179,7 +186,7 @@ reply_closed plan c x stamp reply = by (length x.noted == 0)
 
 -- ---- a client's moves
 
-module _ (plan : Plan) (s : State) (h : Holds plan s) (c : ℕ) (lt : c < length s.clients) (as_many : length s.logs ≡ length s.clients) (kept : (d : ℕ) → Kept plan s.history s.switch d (client_at s d) (log_at s d)) where
+module _ (plan : Plan) (s : State) (up_holds : (now : Switch) → s.switch ≡ Some now → Holds plan s) (c : ℕ) (lt : c < length s.clients) (as_many : length s.logs ≡ length s.clients) (kept : (d : ℕ) → Kept plan s.history s.switch d (client_at s d) (log_at s d)) where
   abbrev x : ClientState
   x = client_at s c
 
@@ -258,6 +265,7 @@ module _ (plan : Plan) (s : State) (h : Holds plan s) (c : ℕ) (lt : c < length
   takes_answer : (after : State) (now next : Switch) (answer : Answer) → x.phase ≡ Waiting → s.switch ≡ Some now → answer_of now c ≡ Some answer → after ≡ taken plan s c x answer next → AnswersStand s.history after.history → Grows s.switch after.switch → AllKept after
   unfolding taken
   takes_answer after now next answer phase up has is stand grows =
+      let h = up_holds now up in
       let t = taken_answer plan s h c answer (subst (λ (n : Switch). answer_of n c ≡ Some answer) (same_switch up h.up) has) in
       let reply = reply_to plan c x answer in
       let outcome : PlainOutcome = record { seq = x.seq; number = answer.number; pairs = answer.pairs } in
@@ -281,6 +289,7 @@ module _ (plan : Plan) (s : State) (h : Holds plan s) (c : ℕ) (lt : c < length
             (record {
               seq = packet_of_item.1;
               above = floor_below answer.number t.last t.above;
+              hot = h.ties.hot_ones c (inr phase);
               values = values_of x.noted;
               packet = refl;
               entry = (length t.split.before, ap (λ (l : History). slice_get l (length t.split.before)) there ∙ front t.split.before entry t.split.behind);
@@ -321,7 +330,11 @@ module _ (plan : Plan) (s : State) (h : Holds plan s) (c : ℕ) (lt : c < length
       risen n i = grind (arith, nat_tests)
 
   kept_by_client : (after : State) → Move plan s c after → AnswersStand s.history after.history → Grows s.switch after.switch → AllKept after
-  unfolding granted refused released decided posted installed
+  unfolding lost granted refused released decided posted installed
+  kept_by_client after (Loses now phase item up is) stand grows =
+      let y = next_item plan c x in
+      same_log after y (ap (λ (z : State). z.clients) is) (ap (λ (z : State). z.logs) is) stand grows (Drops (ap (λ (z : State). z.history) is)) (closed_same y (ap has_open phase) (item_closed (length (items_of plan c)) (x.seq + 1) x.last))
+      (still_before x y (λ i. let clash : Ready ≡ Installing = sym phase ∙ i in cc) (omega arith))
   kept_by_client after (Grants op asks next free is) stand grows =
       let closed = asking_closed x asks in
       let y : ClientState = record x { phase = Locking; noted = x.noted ++ seen_at s.store op.tuple ∷ [] } in
@@ -367,7 +380,7 @@ unfolding packet_from
 packet_seq plan c x = refl
 
 module _ (plan : Plan) where
-  abbrev AreKept : State → Type 0
+  abbrev pub AreKept : State → Type 0
   AreKept s = (d : ℕ) → Kept plan s.history s.switch d (client_at s d) (log_at s d)
 
   kept_still : (s after : State) → after.clients ≡ s.clients → after.logs ≡ s.logs → AnswersStand s.history after.history → Grows s.switch after.switch → Changes s after → AreKept s → AreKept after
@@ -382,18 +395,63 @@ module _ (plan : Plan) where
         told = told_changed s after d (log_at s d).outcomes change (kept d).told;
       }))
 
-  kept_step : (s after : State) (actor : Actor) → IsReached plan s → AreKept s → step plan s actor ≡ Some after → Moved plan s after actor → AreKept after
-  kept_step s after actor reached kept is (ByClient c within move) =
-      let h = holds plan s reached in
-      kept_by_client plan s h c within (logs_stay plan s reached) kept after move (answers_stand plan s after actor h is) (grows_of plan s after actor (ByClient c within move))
-  kept_step s after actor reached kept is (AtPort c now next up to same) =
-      kept_still s after (ap (λ (z : State). z.clients) same ∙ clients_at_port s c (desk_at now c) (next_number now) next) (ap (λ (z : State). z.logs) same ∙ logs_at_port s c (desk_at now c) (next_number now) next)
-      (answers_stand plan s after actor (holds plan s reached) is) (grows_of plan s after actor (AtPort c now next up to same)) (subst (Changes s) (sym same) (changes_at_port s c (desk_at now c) (next_number now) next)) kept
-  kept_step s after actor reached kept is (AtStage k now next up to same) =
-      kept_still s after (ap (λ (z : State). z.clients) same ∙ clients_at_stage s next) (ap (λ (z : State). z.logs) same ∙ logs_at_stage s next)
-      (answers_stand plan s after actor (holds plan s reached) is) (grows_of plan s after actor (AtStage k now next up to same)) (subst (Changes s) (sym same) (changes_at_stage s next)) kept
+  -- ---- recovery
 
-  kept_at_opening : AreKept (opening plan)
+  abbrev same_open : Phase → Type 0
+  same_open p = has_open (waits_again p) ≡ has_open p
+
+  opens_again : (p : Phase) → same_open p
+  opens_again Ready = refl
+  opens_again Locking = refl
+  opens_again Aborting = refl
+  opens_again Logged = refl
+  opens_again Waiting = refl
+  opens_again Installing = refl
+  opens_again Finished = refl
+
+  before_again : (x : ClientState) (q : ℕ) → IsBefore x q → IsBefore (resumed x) q
+  before_again x q (inl lt) = inl lt
+  before_again x q (inr p) = inr (p.0, ap waits_again p.1)
+
+  none_answered : (c : ℕ) (outcomes : List PlainOutcome) (k : ℕ) (t : Task) → IsTold c outcomes (open_entry k t)
+  none_answered c outcomes k t own carried some = absurd (no_pairs some)
+    where
+      no_pairs : IsSome {T = List Pair} None → ⊥
+      no_pairs e = cc
+
+  recovered_kept : (s after : State) (order : List Task) → IsPlacement (plain_logs s.logs) (hot_cells plan) order → after ≡ recovered plan s order → AnswersStand s.history after.history → AreKept s → AreKept after
+  unfolding recovered
+  recovered_kept s after order placed is stand kept d =
+      subst (λ (z : State). Kept plan z.history z.switch d (client_at z d) (log_at z d)) (sym is)
+      (subst (λ (y : ClientState). Kept plan (filled order s.history) (Some now) d y (log_at s d)) (sym (client_again s.clients d)) (record {
+        answered = (kept d).answered;
+        intents = (kept d).intents ∙ ap (λ (b : Bool). (kept d).answered ++ (if b then intent_now plan d x ∷ [] else [])) (sym (opens_again x.phase));
+        outcomes = answers_recovered plan s.history (filled order s.history) s.switch s.logs order placed (desks_from order 0 (length s.clients)) d (kept d).answered (open_intent plan d x) (kept d).intents
+            (subst (AnswersStand s.history) (ap (λ (z : State). z.history) is) stand) (kept d).outcomes;
+        ascending = (kept d).ascending;
+        before = each_one (IsBefore x) (IsBefore (resumed x)) (seqs_in (kept d).answered) (before_again x) (kept d).before;
+        told = all_filled (IsTold d (log_at s d).outcomes) 1 order s.history (kept d).told (λ k t e none. none_answered d (log_at s d).outcomes (1 + k) t);
+      }))
+    where
+      x : ClientState
+      x = client_at s d
+
+      now : Switch
+      now = restored (hot_cells plan) (packets_of order) (desks_from order 0 (length s.clients))
+
+  pub kept_step : (s after : State) (actor : Actor) → IsReached plan s → ((now : Switch) → s.switch ≡ Some now → Holds plan s)
+      → ((order : List Task) → s.switch ≡ None → order_now plan s ≡ Some order → IsPlacement (plain_logs s.logs) (hot_cells plan) order) → AreKept s → step plan s actor ≡ Some after → Moved plan s after actor → AreKept after
+  kept_step s after actor reached up_holds first kept is (ByClient c within move) =
+      kept_by_client plan s up_holds c within (logs_stay plan s reached) kept after move (answers_stand plan s after actor up_holds is) (grows_of plan s after actor (λ e. cc) (ByClient c within move))
+  kept_step s after actor reached up_holds first kept is (AtPort c now next up to same) =
+      kept_still s after (ap (λ (z : State). z.clients) same ∙ clients_at_port s c (desk_at now c) (next_number now) next) (ap (λ (z : State). z.logs) same ∙ logs_at_port s c (desk_at now c) (next_number now) next)
+      (answers_stand plan s after actor up_holds is) (grows_of plan s after actor (λ e. cc) (AtPort c now next up to same)) (subst (Changes s) (sym same) (changes_at_port s c (desk_at now c) (next_number now) next)) kept
+  kept_step s after actor reached up_holds first kept is (AtStage k now next up to same) =
+      kept_still s after (ap (λ (z : State). z.clients) same ∙ clients_at_stage s next) (ap (λ (z : State). z.logs) same ∙ logs_at_stage s next)
+      (answers_stand plan s after actor up_holds is) (grows_of plan s after actor (λ e. cc) (AtStage k now next up to same)) (subst (Changes s) (sym same) (changes_at_stage s next)) kept
+  kept_step s after actor reached up_holds first kept is (Recovers order down found same) = recovered_kept s after order (first order down found) same (answers_stand plan s after actor up_holds is) kept
+
+  pub kept_at_opening : AreKept (opening plan)
   unfolding opening
   kept_at_opening c = first plan.clients c
     where
@@ -413,9 +471,9 @@ module _ (plan : Plan) where
       first : (lists : List (List PlainItem)) (d : ℕ) → Kept plan [] (opening plan).switch c (get_or (first_clients lists) d (at_item 0 1 zero_stamp)) (get_or (map (λ items. no_records) plan.clients) c no_records)
       first lists d = subst (Kept plan [] (opening plan).switch c (get_or (first_clients lists) d (at_item 0 1 zero_stamp))) (sym (log_none plan.clients c)) (none (opening plan).switch (get_or (first_clients lists) d (at_item 0 1 zero_stamp)) (client_closed lists d))
 
-  pub records_answer : (s : State) → IsReached plan s → (c : ℕ) → HasRecords plan s c
-  records_answer s reached c =
-      let kept = of_reached plan AreKept kept_at_opening (λ z next actor r k is. kept_step z next actor r k is (move_of plan z actor next is)) s reached c in
+  pub records_kept : (s : State) → AreKept s → (c : ℕ) → HasRecords plan s c
+  records_kept s all c =
+      let kept = all c in
       record {
         answered = kept.answered;
         intents = kept.intents;

@@ -15,7 +15,7 @@ use Rattle.switch_model.specs.Laws.{left, left_on}
 use Rattle.switch_model.specs.Switch.{Switch, Desk, Vacant, Posted, Answer, desk_at}
 use Rattle.switch_model.proofs.Effects.{DeskBecomes, post_effect, take_effect}
 use Rattle.warm_split.specs.Resolved.{packet_from}
-use Rattle.catalogue.specs.Plan.{Plan, PlainItem, Run, Lose, items_of, script_in}
+use Rattle.catalogue.specs.Plan.{Plan, PlainItem, Run, Lose, items_of, item_of, script_in}
 use Rattle.core_model.specs.declared.phase.Phase.{Phase}
 use Rattle.core_model.specs.declared.phase.Phase.TheVariants.{Ready, Locking, Aborting, Logged, Waiting, Installing, Finished}
 use Rattle.core_model.specs.Asking.{IsAsking}
@@ -24,13 +24,13 @@ use Rattle.core_model.specs.Locks.{cold_ops}
 use Rattle.core_model.specs.State.{ClientState, script_now}
 use Rattle.core_model.specs.Step.{aborting, try_ended, next_item, installed_one}
 use Rattle.core_model.proofs.Stuck.{IsPresent, asking_open}
-use Rattle.fabric_model.specs.Bound.{lock_count, pass_count, way_of, commit_bound, script_bound, item_bound, items_bound, tries_left, way_left, item_left, client_left}
+use Rattle.fabric_model.specs.Bound.{lock_count, pass_count, way_of, commit_bound, script_bound, item_bound, items_bound, tries_left, recovery_of, way_left, item_left, client_left, recovery_left}
 use Rattle.fabric_model.specs.ColdFacts.{FitsPhase}
 use Rattle.fabric_model.specs.Intents.{packet_now}
 use Rattle.fabric_model.specs.State.{State, client_at}
-use Rattle.fabric_model.specs.Step.{granted, refused, released, decided, logged, posted, taken, installed, has_hot, next_op, replied}
+use Rattle.fabric_model.specs.Step.{lost, granted, refused, released, decided, logged, posted, taken, installed, has_hot, next_op, replied}
 use Rattle.fabric_model.proofs.FromCore.{fewer_tries, last_try, dropped}
-use Rattle.fabric_model.proofs.MoveKinds.{Move, Grants, Refuses, Releases, Decides, Logs, Posts, Takes, Installs}
+use Rattle.fabric_model.proofs.MoveKinds.{Move, Loses, Grants, Refuses, Releases, Decides, Logs, Posts, Takes, Installs}
 use Rattle.fabric_model.proofs.Present.{reply_to, stamp_of}
 
 -- ---- tries
@@ -88,22 +88,22 @@ next_left plan now c x tries = by (nat_le (x.seq + 1) (length (items_of plan c))
     within : (a b : ℕ) → nat_le (a + 1) b ≡ true → a < b
     within a b t = grind (arith, nat_tests)
 
-    script : (item : PlainItem) → slice_get (items_of plan c) x.seq ≡ Some item → script_now plan c y ≡ unwrap_or (script_in item) []
-    script item is =
-        ap (λ (b : Bool). unwrap_or (option_and_then script_in (if b then None else slice_get (items_of plan c) ((x.seq + 1) - 1))) []) {x = x.seq + 1 == 0} {y = false} (grind (arith, nat_tests))
-        ∙ ap (λ (n : ℕ). unwrap_or (option_and_then script_in (slice_get (items_of plan c) n)) []) {x = (x.seq + 1) - 1} {y = x.seq} (omega arith)
-        ∙ ap (λ (o : Option PlainItem). unwrap_or (option_and_then script_in o) []) is
+    here : (item : PlainItem) → slice_get (items_of plan c) x.seq ≡ Some item → item_of plan c y.seq ≡ Some item
+    here item is =
+        ap (λ (b : Bool). if b then None else slice_get (items_of plan c) ((x.seq + 1) - 1)) {x = x.seq + 1 == 0} {y = false} (grind (arith, nat_tests))
+        ∙ ap (λ (n : ℕ). slice_get (items_of plan c) n) {x = (x.seq + 1) - 1} {y = x.seq} (omega arith)
+        ∙ is
 
-    nothing : (n t : ℕ) → t ≡ n * (2 * 0 - 1) + (2 * 0 + 1) → t ≤ 2
+    nothing : (n t : ℕ) → t ≡ n * (2 * 0 - 1) + (2 * 0 + 1) → 1 + t ≤ 2
     nothing n t is = omega (arith, is, zeros n)
       where
         zeros : (a : ℕ) → a * (2 * 0 - 1) + (2 * 0 + 1) ≡ 1
         zeros a = grind arith
 
-    begun : (item : PlainItem) → tries_left plan 0 (unwrap_or (script_in item) []) ≤ item_bound plan item
+    begun : (item : PlainItem) → recovery_of (Some item) + tries_left plan 0 (unwrap_or (script_in item) []) ≤ item_bound plan item
     begun (Run ops) = at_most (some_left plan 0 ops (omega (arith, tries)) ∙ ap (λ (n : ℕ). script_bound plan n ops) {x = plan.tries - 1 - 0} {y = plan.tries - 1} (omega arith))
       where
-        at_most : {a b : ℕ} → a ≡ b → a ≤ b
+        at_most : {a b : ℕ} → a ≡ b → 0 + a ≤ b
         at_most e = omega (arith, e)
     begun Lose = nothing (plan.tries - 1 - 0) (tries_left plan 0 []) (some_left plan 0 [] (omega (arith, tries)))
 
@@ -111,10 +111,10 @@ next_left plan now c x tries = by (nat_le (x.seq + 1) (length (items_of plan c))
     by true is =
         let at = dropped (items_of plan c) x.seq (within x.seq (length (items_of plan c)) is) in
         let same : drop (suc x.seq) (items_of plan c) ≡ drop (x.seq + 1) (items_of plan c) = ap (λ (n : ℕ). drop n (items_of plan c)) {x = suc x.seq} (omega arith) in
-        first (tries_left plan 0 (script_now plan c y)) (tries_left plan 0 (unwrap_or (script_in at.0) [])) (ap (λ (ops : List Op). tries_left plan 0 ops) (script at.0 at.1)) (begun at.0) (ap (items_bound plan) at.2) (ap (items_bound plan) same)
+        first (recovery_of (item_of plan c y.seq)) (tries_left plan 0 (script_now plan c y)) (ap (λ (o : Option PlainItem). recovery_of o + tries_left plan 0 (unwrap_or (option_and_then script_in o) [])) (here at.0 at.1)) (begun at.0) (ap (items_bound plan) at.2) (ap (items_bound plan) same)
       where
-        first : (a b : ℕ) {i r p q : ℕ} → a ≡ b → b ≤ i → p ≡ i + r → r ≡ q → (a - 0) + q ≤ p
-        first a b e le f g = omega (arith, e, le, f, g)
+        first : (d a : ℕ) {b i r p q : ℕ} → d + a ≡ b → b ≤ i → p ≡ i + r → r ≡ q → (d + (a - 0)) + q ≤ p
+        first d a e le f g = omega (arith, e, le, f, g)
     by false is = omega (arith, past (items_of plan c) x.seq, ap (λ (n : ℕ). items_bound plan (drop n (items_of plan c))) {x = suc x.seq} {y = x.seq + 1} (omega arith))
       where
         past : (items : List PlainItem) (k : ℕ) → items_bound plan (drop (suc k) items) ≤ items_bound plan (drop k items)
@@ -123,23 +123,32 @@ next_left plan now c x tries = by (nat_le (x.seq + 1) (length (items_of plan c))
         past (item ∷ items) zero = omega arith
         past (item ∷ items) (suc k) = past items k
 
+-- a script with a lock to take loses no switch
+script_runs : (plan : Plan) (c : ℕ) (x : ClientState) → 1 ≤ lock_count plan (script_now plan c x) → recovery_of (item_of plan c x.seq) ≡ 0
+script_runs plan c x some = by (item_of plan c x.seq) some
+  where
+    by : (o : Option PlainItem) → 1 ≤ lock_count plan (unwrap_or (option_and_then script_in o) []) → recovery_of o ≡ 0
+    by None one = refl
+    by (Some (Run ops)) one = refl
+    by (Some Lose) one = absurd (omega (arith, one))
+
 -- a client that ends a try leaves the tries that are left and the items behind
-ended_left : (plan : Plan) (now : Option Switch) (c : ℕ) (x : ClientState) → 1 ≤ plan.tries → client_left plan now c (try_ended plan c x) ≤ tries_left plan (x.refused + 1) (script_now plan c x) + items_bound plan (drop x.seq (items_of plan c))
-ended_left plan now c x tries = by (x.refused + 1 == plan.tries)
+ended_left : (plan : Plan) (now : Option Switch) (c : ℕ) (x : ClientState) → 1 ≤ plan.tries → recovery_of (item_of plan c x.seq) ≡ 0 → client_left plan now c (try_ended plan c x) ≤ tries_left plan (x.refused + 1) (script_now plan c x) + items_bound plan (drop x.seq (items_of plan c))
+ended_left plan now c x tries runs = by (x.refused + 1 == plan.tries)
   where
     by : (b : Bool) → client_left plan now c (if b then next_item plan c x else record { phase = Ready; seq = x.seq; refused = x.refused + 1; noted = []; installed = 0; last = x.last; reply = [] })
         ≤ tries_left plan (x.refused + 1) (script_now plan c x) + items_bound plan (drop x.seq (items_of plan c))
     by true = omega (arith, next_left plan now c x tries)
-    by false = omega arith
+    by false = omega (arith, runs)
 
-aborted_left : (plan : Plan) (now : Option Switch) (c : ℕ) (x : ClientState) (front : List Seen) → 1 ≤ plan.tries
+aborted_left : (plan : Plan) (now : Option Switch) (c : ℕ) (x : ClientState) (front : List Seen) → 1 ≤ plan.tries → recovery_of (item_of plan c x.seq) ≡ 0
     → client_left plan now c (aborting plan c x front) ≤ length front + tries_left plan (x.refused + 1) (script_now plan c x) + items_bound plan (drop x.seq (items_of plan c))
-aborted_left plan now c x [] tries = omega (arith, ended_left plan now c x tries)
-aborted_left plan now c x (seen ∷ others) tries = omega arith
+aborted_left plan now c x [] tries runs = omega (arith, ended_left plan now c x tries runs)
+aborted_left plan now c x (seen ∷ others) tries runs = omega arith
 
-asking_left : (plan : Plan) (now : Option Switch) (c : ℕ) (x : ClientState) (ops : List Op) → IsAsking x → item_left plan now c x ops x.phase ≡ tries_left plan x.refused ops - length x.noted
-asking_left plan now c x ops (inl is) = ap (item_left plan now c x ops) is
-asking_left plan now c x ops (inr is) = ap (item_left plan now c x ops) is
+asking_left : (plan : Plan) (now : Option Switch) (c : ℕ) (x : ClientState) (ops : List Op) → IsAsking x → tries_left plan x.refused ops - length x.noted ≤ item_left plan now c x ops x.phase
+asking_left plan now c x ops (inl is) = subst (λ (p : Phase). tries_left plan x.refused ops - length x.noted ≤ item_left plan now c x ops p) (sym is) (omega arith)
+asking_left plan now c x ops (inr is) = subst (λ (p : Phase). tries_left plan x.refused ops - length x.noted ≤ item_left plan now c x ops p) (sym is) (omega arith)
 
 -- ---- the way through the switch
 
@@ -162,7 +171,9 @@ others_way plan now next c desk becomes flights d n =
 pub record Lessens (plan : Plan) (s : State) (c : ℕ) (after : State) : Type 0 where
   pub y : ClientState
   pub clients : after.clients ≡ set s.clients c y
-  pub less : suc (client_left plan after.switch c y) ≤ client_left plan s.switch c (client_at s c)
+  pub fewer : ℕ
+  pub less : fewer + client_left plan after.switch c y ≤ client_left plan s.switch c (client_at s c)
+  pub enough : suc (recovery_left after.switch) ≤ fewer + recovery_left s.switch
   pub others : (d : ℕ) → d ≢ c → way_left plan after.switch d ≤ way_left plan s.switch d
 
 module _ (plan : Plan) (s : State) (c : ℕ) (fits : FitsPhase plan c (client_at s c) (client_at s c).phase) (here : IsPresent plan c (client_at s c)) where
@@ -188,11 +199,40 @@ module _ (plan : Plan) (s : State) (c : ℕ) (fits : FitsPhase plan c (client_at
   few (inl e) = omega (arith, ap length (subst (λ (p : Phase). FitsPhase plan c x p) e fits).0)
   few (inr e) = (subst (λ (p : Phase). FitsPhase plan c x p) e fits).0
 
+  -- at an item that loses the switch two moves are left
+  loses : (now : Switch) → x.phase ≡ Ready → item_of plan c x.seq ≡ Some Lose → s.switch ≡ Some now → Lessens plan s c (lost plan s c x)
+  unfolding lost
+  loses now phase item up =
+      let active : x.phase ≢ Finished = λ i. clash (sym phase ∙ i) in
+      let none : script_now plan c x ≡ [] = ap (λ (o : Option PlainItem). unwrap_or (option_and_then script_in o) []) item in
+      let fit : FitsPhase plan c x Ready = subst (λ (p : Phase). FitsPhase plan c x p) phase fits in
+      record {
+        y = next_item plan c x;
+        clients = refl;
+        fewer = 2;
+        less = two_left (tries_left plan x.refused []) (plan.tries - 1 - x.refused) (some_left plan x.refused [] (here active).2)
+            (next_left plan None c x (tries_of active))
+            (ap (item_left plan s.switch c x ops) phase ∙ ap (λ (o : Option PlainItem). recovery_of o + (tries_left plan x.refused (unwrap_or (option_and_then script_in o) []) - length x.noted)) item ∙ ap (λ (l : List Seen). 1 + (tries_left plan x.refused [] - length l)) fit.0);
+        enough = omega (arith, ap recovery_left up);
+        others = λ d n. omega arith;
+      }
+    where
+      clash : Ready ≡ Finished → ⊥
+      clash e = cc
+
+      zeros : (a : ℕ) → a * (2 * 0 - 1) + (2 * 0 + 1) ≡ 1
+      zeros a = grind arith
+
+      two_left : {a i r : ℕ} (t n : ℕ) → t ≡ n * (2 * 0 - 1) + (2 * 0 + 1) → a ≤ r → i ≡ 1 + (t - 0) → 2 + a ≤ i + r
+      two_left t n is le e = omega (arith, is, zeros n, le, e)
+
   grants : (op : Op) → IsAsking x → next_op plan c x ≡ Some op → Lessens plan s c (granted s c x op)
   unfolding granted
   grants op asks next = record {
     y = record x { phase = Locking; noted = x.noted ++ seen_at s.store op.tuple ∷ [] };
     clients = refl;
+    fewer = 1;
+    enough = omega arith;
     less = omega (arith, asking_left plan s.switch c x ops asks, one_try plan x.refused ops (here (asking_open x asks)).2, room_of op next, length-append x.noted (seen_at s.store op.tuple ∷ []));
     others = λ d n. omega arith;
   }
@@ -204,7 +244,9 @@ module _ (plan : Plan) (s : State) (c : ℕ) (fits : FitsPhase plan c (client_at
       record {
         y = aborting plan c x x.noted;
         clients = refl;
-        less = omega (arith, aborted_left plan s.switch c x x.noted (tries_of active), asking_left plan s.switch c x ops asks, refused_left plan x.refused ops (length x.noted) (here active).2 (room_of op next));
+        fewer = 1;
+        enough = omega arith;
+        less = omega (arith, aborted_left plan s.switch c x x.noted (tries_of active) (script_runs plan c x (omega (arith, room_of op next))), asking_left plan s.switch c x ops asks, refused_left plan x.refused ops (length x.noted) (here active).2 (room_of op next));
         others = λ d n. omega arith;
       }
 
@@ -215,7 +257,9 @@ module _ (plan : Plan) (s : State) (c : ℕ) (fits : FitsPhase plan c (client_at
       record {
         y = aborting plan c x (take (length x.noted - 1) x.noted);
         clients = refl;
-        less = omega (arith, aborted_left plan s.switch c x (take (length x.noted - 1) x.noted) (tries_of (λ i. clash (sym phase ∙ i))), ap (item_left plan s.switch c x ops) phase, length-take (length x.noted - 1) x.noted, fit.1);
+        fewer = 1;
+        enough = omega arith;
+        less = omega (arith, aborted_left plan s.switch c x (take (length x.noted - 1) x.noted) (tries_of (λ i. clash (sym phase ∙ i))) (script_runs plan c x (omega (arith, fit.1, fit.2))), ap (item_left plan s.switch c x ops) phase, length-take (length x.noted - 1) x.noted, fit.1);
         others = λ d n. omega arith;
       }
     where
@@ -227,6 +271,8 @@ module _ (plan : Plan) (s : State) (c : ℕ) (fits : FitsPhase plan c (client_at
   decides asks next = record {
     y = _;
     clients = refl;
+    fewer = 1;
+    enough = omega arith;
     less = omega (arith, asking_left plan s.switch c x ops asks, one_try plan x.refused ops (here (asking_open x asks)).2, commits plan ops, few asks);
     others = λ d n. omega arith;
   }
@@ -236,6 +282,8 @@ module _ (plan : Plan) (s : State) (c : ℕ) (fits : FitsPhase plan c (client_at
   logs asks hot = record {
     y = _;
     clients = refl;
+    fewer = 1;
+    enough = omega arith;
     less = omega (arith, asking_left plan s.switch c x ops asks, one_try plan x.refused ops (here (asking_open x asks)).2, ap (λ (b : Bool). if b then 3 + way_of plan ops else 1) hot, few asks);
     others = λ d n. omega arith;
   }
@@ -248,6 +296,8 @@ module _ (plan : Plan) (s : State) (c : ℕ) (fits : FitsPhase plan c (client_at
       record {
         y = _;
         clients = refl;
+        fewer = 1;
+        enough = omega arith;
         less = omega (arith, way, ap (item_left plan s.switch c x ops) phase);
         others = λ d n. subst (λ (o : Option Switch). left plan.shape next d ≤ way_left plan o d) (sym up) (others_way plan now next c (Posted (packet_now plan c x)) effect.desk effect.flights d n);
       }
@@ -259,6 +309,8 @@ module _ (plan : Plan) (s : State) (c : ℕ) (fits : FitsPhase plan c (client_at
       record {
         y = replied plan c x (stamp_of answer) (reply_to plan c x answer);
         clients = refl;
+        fewer = 1;
+        enough = omega arith;
         less = omega (arith, answered (stamp_of answer) (reply_to plan c x answer), ap (item_left plan s.switch c x ops) phase);
         others = λ d n. subst (λ (o : Option Switch). left plan.shape next d ≤ way_left plan o d) (sym up) (others_way plan now next c Vacant effect.desk effect.flights d n);
       }
@@ -280,6 +332,8 @@ module _ (plan : Plan) (s : State) (c : ℕ) (fits : FitsPhase plan c (client_at
       record {
         y = installed_one plan c x (length (steps_now plan c x));
         clients = refl;
+        fewer = 1;
+        enough = omega arith;
         less = omega (arith, step_less (length (steps_now plan c x)), ap (item_left plan s.switch c x ops) phase, fit.0, fit.1, slice_get_within (steps_now plan c x) x.installed p at);
         others = λ d n. omega arith;
       }
@@ -295,6 +349,7 @@ module _ (plan : Plan) (s : State) (c : ℕ) (fits : FitsPhase plan c (client_at
           by false = omega (arith, ap (item_left plan s.switch c (record x { installed = x.installed + 1 }) ops) phase)
 
   pub lessens : (after : State) → Move plan s c after → Lessens plan s c after
+  lessens after (Loses now phase item up is) = subst (Lessens plan s c) (sym is) (loses now phase item up)
   lessens after (Grants op asks next free is) = subst (Lessens plan s c) (sym is) (grants op asks next)
   lessens after (Refuses op by asks next held is) = subst (Lessens plan s c) (sym is) (refuses op by asks next)
   lessens after (Releases phase is) = subst (Lessens plan s c) (sym is) (releases phase)

@@ -15,7 +15,7 @@ use Rattle.core_model.proofs.Entries.{entry_cmp_total}
 use Rattle.core_model.proofs.StepsOf.{all_behind}
 use Rattle.core_model.specs.Facts.{Clients}
 use Rattle.fabric_model.specs.Carried.{is_carried, carried, IsPending, IsCarriedBy, AreCarriedBy}
-use Rattle.fabric_model.specs.Holds.{is_answered, answered_ones}
+use Rattle.fabric_model.specs.State.{is_answered, answered_ones}
 use Rattle.fabric_model.specs.Step.{answered_entry, with_reply}
 
 -- each entry changes in a way that keeps it carried by its packet, which knows the replay at its place

@@ -36,12 +36,12 @@ use Rattle.host_store.specs.Store.{seen_at}
 use Rattle.stage_layout.specs.Late.{is_hot}
 use Rattle.fabric_model.specs.ColdChains.{holds_lock, is_past_entry, past_entries, HasColdChains}
 use Rattle.fabric_model.specs.ColdFacts.{FitsPhase, ColdFacts}
-use Rattle.fabric_model.specs.Holds.{answered_ones}
 use Rattle.fabric_model.specs.Laws.{IsReached}
 use Rattle.fabric_model.specs.Recorded.{has_open}
-use Rattle.fabric_model.specs.State.{State, client_at}
+use Rattle.fabric_model.specs.State.{State, client_at, answered_ones}
 use Rattle.fabric_model.proofs.ColdSteps.{among, cold_op_at, op_of_step}
-use Rattle.fabric_model.proofs.Legal.{holds}
+use Rattle.fabric_model.proofs.Either.{facts_of}
+use Rattle.fabric_model.proofs.Legal.{holds_now}
 use Rattle.fabric_model.proofs.OwnStamps.{IsPresentOne, IsOwnPast, stamps_of_run}
 use Rattle.txn_model.proofs.SerialLaws.{item_of_all}
 
@@ -128,7 +128,7 @@ module _ (plan : Plan) (s : State) (reached : IsReached plan s) where
   h = answered_ones s.history
 
   facts : ColdFacts plan at s.store h
-  facts = (holds plan s reached).ties.cold
+  facts = (facts_of plan s (holds_now plan s reached)).facts.cold
 
   -- an operation on a host is one of the script's
   in_script : (c k : ℕ) (op : Op) → slice_get (cold_ops plan.layout (script_now plan c (at c))) k ≡ Some op → (j : ℕ) × (slice_get (script_now plan c (at c)) j ≡ Some op)

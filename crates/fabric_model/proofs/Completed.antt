@@ -18,8 +18,8 @@ use Rattle.core_model.proofs.Fewer.{OthersStay}
 use Rattle.core_model.proofs.StepsOf.{all_append}
 use Rattle.fabric_model.specs.Carried.{is_carried, carried, AreCarriedBy}
 use Rattle.fabric_model.specs.ColdFacts.{ColdFacts}
-use Rattle.fabric_model.specs.Holds.{answered_ones}
 use Rattle.fabric_model.specs.Intents.{values_of}
+use Rattle.fabric_model.specs.State.{answered_ones}
 use Rattle.fabric_model.proofs.AnswerOne.{sorted-with_reply, cold_now, carried_now}
 use Rattle.fabric_model.proofs.CarriedLaws.{with_reply-split}
 use Rattle.fabric_model.proofs.Numbers.{pending_at}

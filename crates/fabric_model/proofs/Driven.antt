@@ -7,15 +7,17 @@ use Rattle.catalogue.specs.Plan.{Plan}
 use Rattle.catalogue.specs.Sound.{IsSound, IsActor}
 use Rattle.catalogue.specs.declared.actor.Actor.{Actor}
 use Rattle.catalogue.specs.declared.actor.Actor.TheVariants.{Client, Port, Stage, Recover}
+use Rattle.switch_model.specs.Switch.{Switch}
 use Rattle.core_model.specs.Rota.{numbers_below, rota, rotas, has_finished}
 use Rattle.core_model.proofs.Turns.{IsAmong, among_left}
 use Rattle.fabric_model.specs.Bound.{move_bound, moves_left}
-use Rattle.fabric_model.specs.Driven.{has_no_loss, IsFinished, Finishes, IsRound}
-use Rattle.fabric_model.specs.Holds.{Holds}
+use Rattle.fabric_model.specs.Driven.{IsFinished, Finishes, IsRound}
+use Rattle.fabric_model.specs.ColdFacts.{FitsPhase}
+use Rattle.fabric_model.specs.Holds.{Holds, HoldsNow, WhileUp, WhileLost}
 use Rattle.fabric_model.specs.Laws.{IsReached, SomeoneCanMove}
 use Rattle.fabric_model.specs.Rota.{all_finished, movers, after_turns, driven_from}
 use Rattle.fabric_model.specs.Run.{opening, state_behind, state_of}
-use Rattle.fabric_model.specs.State.{State}
+use Rattle.fabric_model.specs.State.{State, client_at}
 use Rattle.fabric_model.specs.Step.{step}
 use Rattle.fabric_model.proofs.FromCore.{all_from_test, test_from_all, rotas-add}
 use Rattle.fabric_model.proofs.MovesLeft.{fewer_moves, moves_bounded}
@@ -124,7 +126,7 @@ pub behind_driven : (plan : Plan) (s : State) (actors : List Actor) → state_be
 unfolding driven_from
 behind_driven plan s actors = behind_turns plan s (actors ++ rotas plan (move_bound plan))
 
-module _ (plan : Plan) (holds : (z : State) → IsReached plan z → Holds plan z) where
+module _ (plan : Plan) (fits : (z : State) → IsReached plan z → (c : ℕ) → FitsPhase plan c (client_at z c) (client_at z c).phase) (holds : (z : State) → IsReached plan z → (now : Switch) → z.switch ≡ Some now → Holds plan z) where
   -- moves leave as many fewer
   left_behind : (s after : State) (trace : List Actor) → IsReached plan s → state_behind plan s trace ≡ Some after → moves_left plan after + length trace ≤ moves_left plan s
   left_behind s after [] reached run = let same : s ≡ after = cc in at_most (ap (moves_left plan) same)
@@ -132,17 +134,27 @@ module _ (plan : Plan) (holds : (z : State) → IsReached plan z → Holds plan 
       at_most : {a b : ℕ} → a ≡ b → b + 0 ≤ a
       at_most e = omega (arith, e)
   left_behind s after (actor ∷ trace) reached run =
-      first_move plan s after actor trace (moves_left plan after + suc (length trace) ≤ moves_left plan s) run (λ next is rest. omega (arith, fewer_moves plan holds s next actor reached is, left_behind next after trace (reached_step plan s next actor reached is) rest))
+      first_move plan s after actor trace (moves_left plan after + suc (length trace) ≤ moves_left plan s) run (λ next is rest. omega (arith, fewer_moves plan fits holds s next actor reached is, left_behind next after trace (reached_step plan s next actor reached is) rest))
 
   left_within : (s : State) → IsReached plan s → moves_left plan s ≤ move_bound plan
-  left_within s reached = omega (arith, moves_bounded plan holds s reached)
+  left_within s reached = omega (arith, moves_bounded plan fits holds s reached)
 
-module _ (plan : Plan) (holds : (z : State) → IsReached plan z → Holds plan z) (none : has_no_loss plan ≡ true) where
+module _ (plan : Plan) (fits : (z : State) → IsReached plan z → (c : ℕ) → FitsPhase plan c (client_at z c) (client_at z c).phase) (holds : (z : State) → IsReached plan z → HoldsNow plan z) where
+  while_up : (z : State) → IsReached plan z → (now : Switch) → z.switch ≡ Some now → Holds plan z
+  while_up z reached now up = by (holds z reached)
+    where
+      by : HoldsNow plan z → Holds plan z
+      by (WhileUp h) = h
+      by (WhileLost h) = absurd (clash (sym h.lost ∙ up))
+        where
+          clash : {b : Switch} → None ≡ Some b → ⊥
+          clash e = cc
+
   -- a rota from an unfinished state leaves fewer moves
   pub rota_lessens : (s : State) → IsReached plan s → all_finished s ≡ false → moves_left plan (after_turns plan s (rota plan)) < moves_left plan s
   rota_lessens s reached more =
-      let can : SomeoneCanMove plan s = someone_can_move plan s reached (holds s reached) none more in
-      sum (left_behind plan holds s (after_turns plan s (rota plan)) (movers plan s (rota plan)) reached (behind_turns plan s (rota plan))) (some_mover plan s can.actor (rota plan) (in_rota plan can.actor can.is) more can.moves)
+      let can : SomeoneCanMove plan s = someone_can_move plan s reached (holds s reached) more in
+      sum (left_behind plan fits while_up s (after_turns plan s (rota plan)) (movers plan s (rota plan)) reached (behind_turns plan s (rota plan))) (some_mover plan s can.actor (rota plan) (in_rota plan can.actor can.is) more can.moves)
     where
       sum : {a b n : ℕ} → a + n ≤ b → 1 ≤ n → a < b
       sum le one = omega (arith, le, one)
@@ -177,7 +189,7 @@ module _ (plan : Plan) (holds : (z : State) → IsReached plan z → Holds plan 
   -- where the rota is taken again and again, taking it once more first changes nothing
   driven_again : (s : State) → IsReached plan s → driven_from plan s [] ≡ driven_from plan s (rota plan)
   unfolding driven_from
-  driven_again s reached = sym (more_rotas (move_bound plan) 1 s reached (left_within plan holds s reached)) ∙ ap (λ (n : ℕ). movers plan s (rotas plan n)) {x = move_bound plan + 1} {y = suc (move_bound plan)} (one_more (move_bound plan))
+  driven_again s reached = sym (more_rotas (move_bound plan) 1 s reached (left_within plan fits while_up s reached)) ∙ ap (λ (n : ℕ). movers plan s (rotas plan n)) {x = move_bound plan + 1} {y = suc (move_bound plan)} (one_more (move_bound plan))
     where
       one_more : (n : ℕ) → n + 1 ≡ suc n
       one_more n = omega arith
@@ -185,7 +197,7 @@ module _ (plan : Plan) (holds : (z : State) → IsReached plan z → Holds plan 
   driven_finishes : (s : State) (actors : List Actor) → IsReached plan s → all_finished (driven_to plan s actors) ≡ true
   driven_finishes s actors reached =
       ap all_finished (turns-append plan s actors (rotas plan (move_bound plan)))
-      ∙ let reached_next = reached_turns plan s actors reached in rotas_finish (move_bound plan) (after_turns plan s actors) reached_next (left_within plan holds (after_turns plan s actors) reached_next)
+      ∙ let reached_next = reached_turns plan s actors reached in rotas_finish (move_bound plan) (after_turns plan s actors) reached_next (left_within plan fits while_up (after_turns plan s actors) reached_next)
 
   pub runs_finish : (s : State) (actors : List Actor) → IsReached plan s → Finishes plan s actors
   runs_finish s actors reached = record { after = driven_to plan s actors; run = behind_driven plan s actors; finished = (finished_by_test (driven_to plan s actors)).0 (driven_finishes s actors reached) }

@@ -13,7 +13,7 @@ use Rattle.core_model.specs.Facts.{Clients}
 use Rattle.core_model.specs.StampOrder.{AtMost}
 use Rattle.core_model.proofs.Entries.{entry_cmp_total}
 use Rattle.fabric_model.specs.Carried.{is_carried, carried, AreCarriedBy}
-use Rattle.fabric_model.specs.Holds.{is_answered, answered_ones}
+use Rattle.fabric_model.specs.State.{is_answered, answered_ones}
 use Rattle.fabric_model.proofs.CarriedLaws.{with_entry-between}
 
 -- the answered entries, when an answered one is put in

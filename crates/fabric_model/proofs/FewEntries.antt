@@ -5,6 +5,8 @@ use Rattle.std.proofs.lemmas.List.{length-map}
 use Rattle.std.proofs.lemmas.List.Sums.{sum_by-cons}
 use Rattle.history_model.specs.History.{HistoryEntry, History}
 use Rattle.history_model.specs.InOrder.{seqs_of}
+use Rattle.placement_model.specs.Placements.{tasks_from, tasks_behind, tasks_of}
+use Rattle.switch_packet.specs.Packets.{PlainIntent, PlainOutcome}
 use Rattle.switch_model.specs.Flight.{Flight}
 use Rattle.switch_model.specs.Switch.{Switch, Desk, Vacant, Posted, Entered, desk_at, entered}
 use Rattle.catalogue.specs.Plan.{Plan, PlainItem, items_of, hot_cells}
@@ -16,16 +18,18 @@ use Rattle.core_model.specs.State.{ClientState, at_item, zero_stamp}
 use Rattle.fabric_model.specs.Carried.{is_carried, carried}
 use Rattle.fabric_model.specs.Holds.{Holds}
 use Rattle.fabric_model.specs.Laws.{IsReached}
+use Rattle.fabric_model.specs.Recovery.{plain_logs}
 use Rattle.fabric_model.specs.Run.{opening}
-use Rattle.fabric_model.specs.State.{State, client_at}
+use Rattle.fabric_model.specs.State.{Records, State, client_at, no_records}
 use Rattle.fabric_model.proofs.CarriedLaws.{as_many_carried}
-use Rattle.fabric_model.proofs.FewRecords.{seq_within}
-use Rattle.fabric_model.proofs.InOrder.{HasIts, desk_in, Goes, Stays, Passes, Adds, goes_of}
-use Rattle.fabric_model.proofs.Legal.{holds}
+use Rattle.fabric_model.proofs.FewRecords.{seq_within, few_records}
+use Rattle.fabric_model.proofs.InOrder.{HasIts, desk_in, Goes, Stays, Passes, Leaves, Adds, goes_of}
+use Rattle.fabric_model.proofs.Legal.{holds_now, holds_up}
 use Rattle.fabric_model.proofs.MoveKinds.{move_of}
 use Rattle.fabric_model.proofs.MovesLeft.{same_switch}
-use Rattle.fabric_model.proofs.Present.{present_of}
-use Rattle.fabric_model.proofs.Runs.{of_reached}
+use Rattle.fabric_model.proofs.PerClient.{logs_stay}
+use Rattle.fabric_model.proofs.Present.{present_of, clients_stay}
+use Rattle.fabric_model.proofs.Runs.{of_reached, reached_step}
 
 -- ---- entries of one client
 
@@ -86,6 +90,7 @@ few_goes x desk y desk_new l l_new (Stays is same on) few = by (its_counts x des
     by (inr a) (inl b) = omega (arith, ap length is, same, few, a.1, b.1)
     by (inr a) (inr b) = omega (arith, ap length is, same, few, a.1, b.1)
 few_goes x desk y desk_new l l_new (Passes is later) few = omega (arith, ap length is, later, few, its_few x.phase desk)
+few_goes x desk y desk_new l l_new (Leaves is same waits) few = omega (arith, ap length is, length-append l_new (x.seq ∷ []), same, few, its_few x.phase desk)
 few_goes x desk y desk_new l l_new (Adds is none same has) few = by (its_counts x desk) (its_counts y desk_new)
   where
     by : Counts x desk (its x.phase desk) → Counts y desk_new (its y.phase desk_new) → AreFew y desk_new l_new
@@ -108,7 +113,7 @@ first_few plan c = omega (arith, first_seq plan.clients c)
 all_few : (plan : Plan) (s : State) → IsReached plan s → AllFew s
 all_few plan s reached =
     of_reached plan AllFew (first_few plan) (λ z next actor r few is c.
-    few_goes (client_at z c) (desk_in z.switch c) (client_at next c) (desk_in next.switch c) (seqs_of c z.history) (seqs_of c next.history) (goes_of plan z (holds plan z r) next actor (move_of plan z actor next is) c) (few c)) s reached
+    few_goes (client_at z c) (desk_in z.switch c) (client_at next c) (desk_in next.switch c) (seqs_of c z.history) (seqs_of c next.history) (goes_of plan z next actor (holds_now plan z r) (holds_now plan next (reached_step plan z next actor r is)) (move_of plan z actor next is) c) (few c)) s reached
 
 -- ---- entries of all clients
 
@@ -200,6 +205,23 @@ few_packets plan s reached h =
 
 pub few_flights : (plan : Plan) (s : State) (now : Switch) → IsReached plan s → s.switch ≡ Some now → length now.flights ≤ item_count plan
 few_flights plan s now reached up =
-    let h = holds plan s reached in
+    let h = holds_up plan s reached now up in
     let same : now ≡ h.now = same_switch up h.up in
     omega (arith, ap (λ (n : Switch). length n.flights) same, length-map h.now.flights (λ (f : Flight). f.packet), few_packets plan s reached h)
+
+-- ---- tasks of the clients' logs
+
+length-tasks_from : (client k : ℕ) (intents : List PlainIntent) (outcomes : List PlainOutcome) → length (tasks_from client k intents outcomes) ≡ length intents
+length-tasks_from client k [] outcomes = refl
+length-tasks_from client k (intent ∷ intents) [] = ap suc (length-tasks_from client (k + 1) intents [])
+length-tasks_from client k (intent ∷ intents) (outcome ∷ outcomes) = ap suc (length-tasks_from client (k + 1) intents outcomes)
+
+few_behind : (client : ℕ) (logs : List Records) (lists : List (List PlainItem)) → length logs ≡ length lists → ((c : ℕ) → length (get_or logs c no_records).intents ≤ length (get_or lists c [])) → length (tasks_behind client (plain_logs logs)) ≤ sum_by length lists
+few_behind client [] lists same few = omega arith
+few_behind client (log ∷ logs) [] same few = absurd (omega (arith, same))
+few_behind client (log ∷ logs) (items ∷ lists) same few =
+    omega (arith, length-append (tasks_from client 0 log.intents log.outcomes) (tasks_behind (client + 1) (plain_logs logs)), length-tasks_from client 0 log.intents log.outcomes, few 0, few_behind (client + 1) logs lists (omega (arith, same)) (λ c. few (suc c)), sum_by-cons length items lists)
+
+-- there are no more than items
+pub few_tasks : (plan : Plan) (s : State) → IsReached plan s → length (tasks_of (plain_logs s.logs)) ≤ item_count plan
+few_tasks plan s reached = few_behind 0 s.logs plan.clients (logs_stay plan s reached ∙ clients_stay plan s reached) (λ c. (few_records plan s c reached).0)

@@ -16,11 +16,12 @@ use Rattle.core_model.specs.Step.{aborting, next_item, installed_one}
 use Rattle.core_model.proofs.Stuck.{IsPresent, asking_open}
 use Rattle.fabric_model.specs.Intents.{intent_now, with_intent, with_outcome}
 use Rattle.fabric_model.specs.Laws.{IsReached}
+use Rattle.fabric_model.specs.Recovery.{waits_again, resumed}
 use Rattle.fabric_model.specs.Run.{opening}
 use Rattle.fabric_model.specs.State.{Records, State, client_at, log_at, no_records}
-use Rattle.fabric_model.specs.Step.{granted, refused, released, decided, logged, posted, taken, installed, replied}
-use Rattle.fabric_model.proofs.MoveKinds.{Move, Grants, Refuses, Releases, Decides, Logs, Posts, Takes, Installs, Moved, ByClient, AtPort, AtStage, move_of}
-use Rattle.fabric_model.proofs.PerClient.{EachClient, each_moved, each_still, logs_stay, logs_at_port, logs_at_stage, GoesOn, on_aborting}
+use Rattle.fabric_model.specs.Step.{lost, granted, refused, released, decided, logged, posted, taken, installed, replied}
+use Rattle.fabric_model.proofs.MoveKinds.{Move, Loses, Grants, Refuses, Releases, Decides, Logs, Posts, Takes, Installs, Moved, ByClient, AtPort, AtStage, Recovers, move_of}
+use Rattle.fabric_model.proofs.PerClient.{EachClient, each_moved, each_still, each_resumed, logs_stay, logs_at_port, logs_at_stage, GoesOn, on_aborting}
 use Rattle.fabric_model.proofs.Present.{reply_to, stamp_of, clients_at_port, clients_at_stage, present_of}
 use Rattle.fabric_model.proofs.Runs.{of_reached}
 
@@ -95,7 +96,10 @@ module _ (plan : Plan) (s : State) (c : ℕ) (lt : c < length s.clients) (as_man
   still = (omega arith, omega arith)
 
   few_moved : (after : State) → Move plan s c after → EachClient (λ d y l. IsFew plan d y l) after
-  unfolding granted refused released decided logged posted taken installed
+  unfolding lost granted refused released decided logged posted taken installed
+  few_moved after (Loses now phase item up is) =
+      each_moved (λ d y l. IsFew plan d y l) s after c (next_item plan c x) log lt as_many (ap (λ (z : State). z.clients) is) (inl (ap (λ (z : State). z.logs) is, refl)) (λ d n. all d)
+      (none_few plan c x (next_item plan c x) log (ap in_intents phase, ap in_outcomes phase) (low (λ f. let clash : Ready ≡ Finished = sym phase ∙ f in cc)) (omega arith, omega arith) (all c))
   few_moved after (Grants op asks next free is) =
       each_moved (λ d y l. IsFew plan d y l) s after c _ log lt as_many (ap (λ (z : State). z.clients) is) (inl (ap (λ (z : State). z.logs) is, refl)) (λ d n. all d) (none_few plan c x _ log (asking_few x asks) (low (asking_open x asks)) still (all c))
   few_moved after (Refuses op by asks next held is) =
@@ -121,12 +125,35 @@ module _ (plan : Plan) (s : State) (c : ℕ) (lt : c < length s.clients) (as_man
       each_moved (λ d y l. IsFew plan d y l) s after c (installed_one plan c x (length (steps_now plan c x))) log lt as_many (ap (λ (z : State). z.clients) is) (inl (ap (λ (z : State). z.logs) is, refl)) (λ d n. all d)
       (installed_few plan c x (length (steps_now plan c x)) log phase (low (λ f. let clash : Installing ≡ Finished = sym phase ∙ f in cc)) (all c))
 
+-- a client that waits again has as many records
+resumed_few : (plan : Plan) (c : ℕ) (x : ClientState) (log : Records) → IsFew plan c x log → IsFew plan c (resumed x) log
+resumed_few plan c x log few = record { within = few.within; intents = omega (arith, few.intents, same_intents x.phase); outcomes = omega (arith, few.outcomes, same_outcomes x.phase) }
+  where
+    same_intents : (p : Phase) → in_intents (waits_again p) ≡ in_intents p
+    same_intents Ready = refl
+    same_intents Locking = refl
+    same_intents Aborting = refl
+    same_intents Logged = refl
+    same_intents Waiting = refl
+    same_intents Installing = refl
+    same_intents Finished = refl
+
+    same_outcomes : (p : Phase) → in_outcomes (waits_again p) ≡ in_outcomes p
+    same_outcomes Ready = refl
+    same_outcomes Locking = refl
+    same_outcomes Aborting = refl
+    same_outcomes Logged = refl
+    same_outcomes Waiting = refl
+    same_outcomes Installing = refl
+    same_outcomes Finished = refl
+
 few_step : (plan : Plan) (s after : State) (actor : Actor) → IsReached plan s → EachClient (λ d x log. IsFew plan d x log) s → Moved plan s after actor → EachClient (λ d x log. IsFew plan d x log) after
 few_step plan s after actor reached all (ByClient c within move) = few_moved plan s c within (logs_stay plan s reached) (present_of plan s reached c) all after move
 few_step plan s after actor reached all (AtPort c now next up to is) =
     each_still (λ d x log. IsFew plan d x log) s after (ap (λ (z : State). z.clients) is ∙ clients_at_port s c (desk_at now c) (next_number now) next) (ap (λ (z : State). z.logs) is ∙ logs_at_port s c (desk_at now c) (next_number now) next) all
 few_step plan s after actor reached all (AtStage k now next up to is) =
     each_still (λ d x log. IsFew plan d x log) s after (ap (λ (z : State). z.clients) is ∙ clients_at_stage s next) (ap (λ (z : State). z.logs) is ∙ logs_at_stage s next) all
+few_step plan s after actor reached all (Recovers order down found is) = each_resumed plan (λ d x log. IsFew plan d x log) s after order is (λ d few. resumed_few plan d (client_at s d) (log_at s d) few) all
 
 few_at_opening : (plan : Plan) → EachClient (λ d x log. IsFew plan d x log) (opening plan)
 unfolding opening

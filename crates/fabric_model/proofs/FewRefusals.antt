@@ -1,16 +1,18 @@
 -- There are no more refusals than tries of items.
-use Rattle.std.proofs.Common.{◌≡◌, ◌≢◌, ℕ, zero, suc, ◌+◌, ◌-◌, ◌*◌, ◌<◌, ◌≤◌, ◌==◌, Bool, true, false, List, [], ◌∷◌, length, length-append, take, set, get_or, inl, inr, refl, sym, ap, subst, ◌∙◌, arith, if◌then◌else◌}
+use Rattle.std.proofs.Common.{◌≡◌, ◌≢◌, ℕ, zero, suc, ◌+◌, ◌-◌, ◌*◌, ◌<◌, ◌≤◌, ◌==◌, Bool, true, false, List, [], ◌∷◌, length, length-append, map, take, set, get_or, inl, inr, refl, sym, ap, subst, ◌∙◌, arith, if◌then◌else◌}
 use Rattle.std.specs.Prelude.{sum_by}
 use Rattle.std.proofs.lemmas.Bool.Decides.{nat_tests}
 use Rattle.std.proofs.lemmas.List.Sums.{sum_by-cons}
 use Rattle.txn_model.specs.declared.pairs.Pair.{Pair}
 use Rattle.txn_model.specs.declared.stamp.Seen.{Seen}
 use Rattle.txn_model.specs.declared.stamp.Stamp.{Stamp}
+use Rattle.placement_model.specs.Placements.{Task}
 use Rattle.switch_model.specs.Switch.{Switch, Desk, Vacant, Posted, Entered, desk_at, next_number}
 use Rattle.catalogue.specs.Plan.{Plan, PlainItem, items_of}
 use Rattle.catalogue.specs.Sound.{item_count}
 use Rattle.catalogue.specs.declared.actor.Actor.{Actor}
-use Rattle.core_model.specs.declared.phase.Phase.TheVariants.{Ready, Aborting, Waiting, Installing, Finished}
+use Rattle.core_model.specs.declared.phase.Phase.{Phase}
+use Rattle.core_model.specs.declared.phase.Phase.TheVariants.{Ready, Locking, Aborting, Logged, Waiting, Installing, Finished}
 use Rattle.core_model.specs.Asking.{IsAsking}
 use Rattle.core_model.specs.Facts.{steps_now}
 use Rattle.core_model.specs.Run.{first_clients}
@@ -19,11 +21,12 @@ use Rattle.core_model.specs.Step.{aborting, try_ended, next_item, installed_one}
 use Rattle.core_model.proofs.Ended.{in_abort}
 use Rattle.core_model.proofs.Stuck.{IsPresent, asking_open}
 use Rattle.fabric_model.specs.Laws.{IsReached}
+use Rattle.fabric_model.specs.Recovery.{waits_again, resumed}
 use Rattle.fabric_model.specs.Run.{opening}
 use Rattle.fabric_model.specs.State.{State, client_at}
-use Rattle.fabric_model.specs.Step.{granted, refused, released, decided, logged, posted, taken, installed, switched, entered, behind_entry, replied}
-use Rattle.fabric_model.proofs.MoveKinds.{Move, Grants, Refuses, Releases, Decides, Logs, Posts, Takes, Installs, Moved, ByClient, AtPort, AtStage, move_of}
-use Rattle.fabric_model.proofs.Present.{reply_to, stamp_of, clients_at_port, clients_at_stage, present_of}
+use Rattle.fabric_model.specs.Step.{lost, granted, refused, released, decided, logged, posted, taken, installed, switched, entered, behind_entry, recovered, replied}
+use Rattle.fabric_model.proofs.MoveKinds.{Move, Loses, Grants, Refuses, Releases, Decides, Logs, Posts, Takes, Installs, Moved, ByClient, AtPort, AtStage, Recovers, move_of}
+use Rattle.fabric_model.proofs.Present.{reply_to, stamp_of, clients_at_port, clients_at_stage, clients_recovered, present_of}
 use Rattle.fabric_model.proofs.Runs.{of_reached}
 
 -- the sum of a function over clients, which begin with this one
@@ -125,7 +128,18 @@ replied_refusals plan c x stamp reply here phase = by (length x.noted == 0)
     by false = omega (arith, ap in_abort phase)
 
 spends : (plan : Plan) (s : State) (c : ℕ) (after : State) → IsPresent plan c (client_at s c) → Move plan s c after → Spends plan s c after
-unfolding granted refused released decided logged posted taken installed
+unfolding lost granted refused released decided logged posted taken installed
+spends plan s c after here (Loses now phase item up is) =
+    let x = client_at s c in
+    let present = here (λ i. clash (sym phase ∙ i)) in
+    record {
+      y = next_item plan c x;
+      clients = ap (λ (z : State). z.clients) is;
+      less = omega (arith, ap (λ (z : State). length z.refusals) is, ap in_abort phase, next_refusals plan c x present.1, present.2);
+    }
+  where
+    clash : Ready ≡ Finished → ⊥
+    clash e = cc
 spends plan s c after here (Grants op asks next free is) = record {
   y = _;
   clients = ap (λ (z : State). z.clients) is;
@@ -191,6 +205,24 @@ refusals_at_stage : (s : State) (next : Switch) → (switched s next).refusals �
 unfolding switched
 refusals_at_stage s next = refl
 
+refusals_recovered : (plan : Plan) (s : State) (order : List Task) → (recovered plan s order).refusals ≡ s.refusals
+unfolding recovered
+refusals_recovered plan s order = refl
+
+-- clients that wait again may still get as many
+total_resumed : (plan : Plan) (k : ℕ) (clients : List ClientState) → total_from (refusals_left plan) k (map resumed clients) ≡ total_from (refusals_left plan) k clients
+total_resumed plan k [] = refl
+total_resumed plan k (x ∷ clients) = omega (arith, ap (λ (n : ℕ). plan.tries * items_left plan k x - (x.refused + n)) (same_abort x.phase), total_resumed plan (k + 1) clients)
+  where
+    same_abort : (p : Phase) → in_abort (waits_again p) ≡ in_abort p
+    same_abort Ready = refl
+    same_abort Locking = refl
+    same_abort Aborting = refl
+    same_abort Logged = refl
+    same_abort Waiting = refl
+    same_abort Installing = refl
+    same_abort Finished = refl
+
 refusals_still : (plan : Plan) (s after : State) → after.clients ≡ s.clients → after.refusals ≡ s.refusals → RefusalsFit plan s → RefusalsFit plan after
 refusals_still plan s after clients refusals fit = omega (arith, fit, ap length refusals, ap (total_from (refusals_left plan) 0) clients)
 
@@ -200,6 +232,8 @@ refusals_step plan s after actor reached fit (AtPort c now next up to is) =
     refusals_still plan s after (ap (λ (z : State). z.clients) is ∙ clients_at_port s c (desk_at now c) (next_number now) next) (ap (λ (z : State). z.refusals) is ∙ refusals_at_port s c (desk_at now c) (next_number now) next) fit
 refusals_step plan s after actor reached fit (AtStage k now next up to is) =
     refusals_still plan s after (ap (λ (z : State). z.clients) is ∙ clients_at_stage s next) (ap (λ (z : State). z.refusals) is ∙ refusals_at_stage s next) fit
+refusals_step plan s after actor reached fit (Recovers order down found is) =
+    omega (arith, fit, ap length (ap (λ (z : State). z.refusals) is ∙ refusals_recovered plan s order), ap (total_from (refusals_left plan) 0) (ap (λ (z : State). z.clients) is ∙ clients_recovered plan s order), total_resumed plan 0 s.clients)
 
 refusals_at_opening : (plan : Plan) → RefusalsFit plan (opening plan)
 unfolding opening

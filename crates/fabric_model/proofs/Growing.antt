@@ -1,5 +1,5 @@
 -- Packets that have entered the switch stay as they are, and more come behind them.
-use Rattle.std.proofs.Common.{◌≡◌, ℕ, zero, suc, List, [], ◌∷◌, ◌++◌, append-nil, slice_get, Option, Some, inl, inr, sym, ap, ◌∙◌}
+use Rattle.std.proofs.Common.{◌≡◌, ◌≢◌, ℕ, zero, suc, List, [], ◌∷◌, ◌++◌, append-nil, slice_get, Option, Some, None, inl, inr, refl, sym, ap, ◌∙◌}
 use Rattle.txn_model.specs.Places.{Places}
 use Rattle.txn_model.specs.declared.pairs.Pair.{Pair}
 use Rattle.switch_packet.specs.Packets.{PlainPacket}
@@ -9,10 +9,11 @@ use Rattle.switch_model.specs.Switch.{Switch, desk_at, next_number, entered}
 use Rattle.switch_model.proofs.Effects.{post_effect, enter_effect, advance_effect, take_effect}
 use Rattle.catalogue.specs.Plan.{Plan}
 use Rattle.catalogue.specs.declared.actor.Actor.{Actor}
+use Rattle.catalogue.specs.declared.actor.Actor.TheVariants.{Recover}
 use Rattle.fabric_model.specs.Intents.{packet_now}
 use Rattle.fabric_model.specs.State.{State, client_at}
-use Rattle.fabric_model.specs.Step.{granted, refused, released, decided, logged, posted, taken, installed}
-use Rattle.fabric_model.proofs.MoveKinds.{Move, Grants, Refuses, Releases, Decides, Logs, Posts, Takes, Installs, Moved, ByClient, AtPort, AtStage}
+use Rattle.fabric_model.specs.Step.{lost, granted, refused, released, decided, logged, posted, taken, installed}
+use Rattle.fabric_model.proofs.MoveKinds.{Move, Loses, Grants, Refuses, Releases, Decides, Logs, Posts, Takes, Installs, Moved, ByClient, AtPort, AtStage, Recovers}
 use Rattle.fabric_model.proofs.Present.{switch_at_port, switch_at_stage}
 
 -- the switch that is up was up before, with no packets but these at the front
@@ -37,8 +38,12 @@ grows_by before after now next more was up is other other_up = record { now = no
 grows_as : (before after : Option Switch) (now next : Switch) → before ≡ Some now → after ≡ Some next → entered next ≡ entered now → Grows before after
 grows_as before after now next was up is = grows_by before after now next [] was up (is ∙ sym (append-nil (entered now)))
 
+none_up : {now : Switch} → None ≡ Some now → ⊥
+none_up e = cc
+
 grows_by_client : (plan : Plan) (s : State) (c : ℕ) (after : State) → Move plan s c after → Grows s.switch after.switch
-unfolding granted refused released decided logged posted taken installed
+unfolding lost granted refused released decided logged posted taken installed
+grows_by_client plan s c after (Loses now phase item up is) = λ other there. absurd (none_up (sym (ap (λ (z : State). z.switch) is) ∙ there))
 grows_by_client plan s c after (Grants op asks next free is) = grows_same s.switch after.switch (ap (λ (z : State). z.switch) is)
 grows_by_client plan s c after (Refuses op by asks next held is) = grows_same s.switch after.switch (ap (λ (z : State). z.switch) is)
 grows_by_client plan s c after (Releases phase is) = grows_same s.switch after.switch (ap (λ (z : State). z.switch) is)
@@ -48,16 +53,18 @@ grows_by_client plan s c after (Posts now next phase up to is) = grows_as s.swit
 grows_by_client plan s c after (Takes now next answer phase up has to is) = grows_as s.switch after.switch now next up (ap (λ (z : State). z.switch) is) (take_effect now next c to).entered
 grows_by_client plan s c after (Installs p phase at is) = grows_same s.switch after.switch (ap (λ (z : State). z.switch) is)
 
-pub grows_of : (plan : Plan) (s after : State) (actor : Actor) → Moved plan s after actor → Grows s.switch after.switch
-grows_of plan s after actor (ByClient c within move) = grows_by_client plan s c after move
-grows_of plan s after actor (AtPort c now next up to is) =
+-- but for a recovery
+pub grows_of : (plan : Plan) (s after : State) (actor : Actor) → actor ≢ Recover → Moved plan s after actor → Grows s.switch after.switch
+grows_of plan s after actor other (ByClient c within move) = grows_by_client plan s c after move
+grows_of plan s after actor other (AtPort c now next up to is) =
     let there : after.switch ≡ Some next = ap (λ (z : State). z.switch) is ∙ switch_at_port s c (desk_at now c) (next_number now) next in
     elim (enter_effect plan.shape now next c to) [
       | inl f ↦ grows_by s.switch after.switch now next (f.packet ∷ []) up there f.entered
       | inr l ↦ grows_as s.switch after.switch now next up there l.entered
     ]
-grows_of plan s after actor (AtStage x now next up to is) =
+grows_of plan s after actor other (AtStage x now next up to is) =
     grows_as s.switch after.switch now next up (ap (λ (z : State). z.switch) is ∙ switch_at_stage s next) (advance_effect plan.shape now next x to).entered
+grows_of plan s after actor other (Recovers order down found is) = absurd (other refl)
 
 -- an item at a place of a list is there when more come behind
 pub still_at : {X : Type 0} (a b : List X) (k : ℕ) (x : X) → slice_get a k ≡ Some x → slice_get (a ++ b) k ≡ Some x

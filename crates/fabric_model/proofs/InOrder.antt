@@ -1,25 +1,27 @@
 -- Each client's entries stand in its own order, and each item has at most one.
-use Rattle.std.proofs.Common.{◌≡◌, ◌≢◌, ◌⊎◌, ℕ, ◌+◌, ◌-◌, ◌<◌, ◌≤◌, ◌==◌, ◌&&◌, Bool, true, false, List, [], ◌∷◌, ◌++◌, map, filter, length, is_some, take, set, get_or, Option, Some, None, inl, inr, refl, sym, ap, subst, ◌∙◌, arith, if◌then◌else◌}
+use Rattle.std.proofs.Common.{◌≡◌, ◌≢◌, ◌⊎◌, ℕ, ◌+◌, ◌-◌, ◌<◌, ◌≤◌, ◌==◌, ◌&&◌, Bool, true, false, List, [], ◌∷◌, ◌++◌, map, filter, length, is_some, IsSome, take, set, get_or, Option, Some, None, inl, inr, refl, sym, ap, subst, ◌∙◌, arith, if◌then◌else◌}
 use Rattle.std.specs.List.{AllByRecursion}
 use Rattle.std.proofs.lemmas.List.{length-map}
 use Rattle.txn_model.specs.Places.{Places}
 use Rattle.txn_model.specs.declared.pairs.Pair.{Pair}
 use Rattle.txn_model.specs.declared.stamp.Seen.{Seen}
 use Rattle.txn_model.specs.declared.stamp.Stamp.{Stamp}
-use Rattle.history_model.specs.History.{HistoryEntry, History, with_entry}
+use Rattle.history_model.specs.History.{HistoryEntry, History, AllAnswered, with_entry}
 use Rattle.history_model.specs.InOrder.{seqs_of}
 use Rattle.history_model.specs.declared.entry.Entry.{Entry}
 use Rattle.switch_packet.specs.Packets.{PlainPacket}
 use Rattle.switch_packet.specs.Replay.{replay}
+use Rattle.placement_model.specs.Placements.{Task}
 use Rattle.switch_model.specs.Event as switch
 use Rattle.switch_model.specs.Flight.{Flight}
 use Rattle.switch_model.specs.Switch as machine
-use Rattle.switch_model.specs.Switch.{Switch, Answer, Desk, Vacant, Posted, Entered, desk_at, next_number}
+use Rattle.switch_model.specs.Switch.{Switch, Answer, Desk, Vacant, Posted, desk_at, next_number}
 use Rattle.switch_model.proofs.Effects.{post_effect, take_effect, enter_effect, advance_effect, FirstEffect}
 use Rattle.warm_split.specs.Resolved.{packet_from}
 use Rattle.catalogue.specs.Plan.{Plan, hot_cells}
 use Rattle.catalogue.specs.declared.actor.Actor.{Actor}
-use Rattle.core_model.specs.declared.phase.Phase.TheVariants.{Ready, Locking, Aborting, Logged, Waiting, Installing}
+use Rattle.core_model.specs.declared.phase.Phase.{Phase}
+use Rattle.core_model.specs.declared.phase.Phase.TheVariants.{Ready, Locking, Aborting, Logged, Waiting, Installing, Finished}
 use Rattle.core_model.specs.Asking.{IsAsking}
 use Rattle.core_model.specs.Decision.{greatest, next_sub}
 use Rattle.core_model.specs.Facts.{Clients, steps_now}
@@ -32,25 +34,23 @@ use Rattle.core_model.proofs.Moves.{moved_client, others_stay}
 use Rattle.core_model.proofs.Stamps.{AtMost-trans, AtMost-greatest, Below-from_AtMost, Below-next_sub, below_of}
 use Rattle.core_model.proofs.StepsOf.{all_append}
 use Rattle.fabric_model.specs.Carried.{is_carried, carried, AreCarriedBy, FitsDesk}
-use Rattle.fabric_model.specs.Holds.{is_answered, Holds}
+use Rattle.fabric_model.specs.Holds.{Holds, HoldsLost, HoldsNow, WhileUp, WhileLost}
 use Rattle.fabric_model.specs.Intents.{packet_now}
 use Rattle.fabric_model.specs.Laws.{IsReached, IsPast, HasItemsInOrder}
+use Rattle.fabric_model.specs.Recovery.{waits_again, resumed}
 use Rattle.fabric_model.specs.Run.{opening}
-use Rattle.fabric_model.specs.State.{State, client_at}
-use Rattle.fabric_model.specs.Step.{granted, refused, released, decided, logged, posted, taken, installed, switched, entered, replied, behind_entry, answered_entry, with_reply}
+use Rattle.fabric_model.specs.State.{State, client_at, is_answered, answered_ones}
+use Rattle.fabric_model.specs.Step.{lost, granted, refused, released, decided, logged, posted, taken, installed, switched, entered, replied, behind_entry, recovered, answered_entry, with_reply}
+use Rattle.fabric_model.proofs.Either.{FactsOf, facts_of, up_of, lost_of}
 use Rattle.fabric_model.proofs.FromCore.{own_last, others_same, ascending_last}
-use Rattle.fabric_model.proofs.MoveKinds.{Move, Grants, Refuses, Releases, Decides, Logs, Posts, Takes, Installs, Moved, ByClient, AtPort, AtStage, move_of}
+use Rattle.fabric_model.proofs.MoveKinds.{Move, Loses, Grants, Refuses, Releases, Decides, Logs, Posts, Takes, Installs, Moved, ByClient, AtPort, AtStage, Recovers, move_of}
 use Rattle.fabric_model.proofs.MovesLeft.{same_switch}
-use Rattle.fabric_model.proofs.Present.{reply_to, stamp_of}
-use Rattle.fabric_model.proofs.Runs.{of_reached}
+pub use Rattle.fabric_model.proofs.OwnEntries.{IsNumbered, from_filter}
+use Rattle.fabric_model.proofs.OwnEntries.{ones_of, numbered_or_not, all_answered, ones_recovered}
+use Rattle.fabric_model.proofs.Present.{reply_to, stamp_of, client_recovered, up_recovered}
+use Rattle.fabric_model.proofs.Runs.{of_reached, reached_step}
 
 -- ---- what is kept
-
--- the packet on the desk has its number
-abbrev pub IsNumbered : Desk → Type 0
-IsNumbered Vacant = ⊥
-IsNumbered (Posted p) = ⊥
-IsNumbered (Entered k) = Unit {0}
 
 -- the client's present item has an entry: it is decided or answered, or its packet has entered the switch
 abbrev pub HasIts : ClientState → Desk → Type 0
@@ -68,10 +68,12 @@ pub record Ordered (s : State) : Type 0 where
   pub ascending : (c : ℕ) → IsAscending (seqs_of c s.history)
   pub past : (c : ℕ) → AllByRecursion (IsPastAt (client_at s c) (desk_in s.switch c)) (seqs_of c s.history)
 
--- what a move makes of a client, of its desk, and of the items with entries: these stay, or the present item is one more
+-- what a move makes of a client, of its desk, and of the items with entries: these stay, or the present item is one more, or it is
+-- one no more
 pub data Goes (x : ClientState) (desk : Desk) (y : ClientState) (desk_new : Desk) (l l_new : List ℕ) : Type 0 where
   Stays : l_new ≡ l → y.seq ≡ x.seq → (HasIts x desk → HasIts y desk_new) → Goes x desk y desk_new l l_new
   Passes : l_new ≡ l → x.seq < y.seq → Goes x desk y desk_new l l_new
+  Leaves : l ≡ l_new ++ x.seq ∷ [] → y.seq ≡ x.seq → y.phase ≡ Waiting → Goes x desk y desk_new l l_new
   Adds : l_new ≡ l ++ x.seq ∷ [] → (HasIts x desk → ⊥) → y.seq ≡ x.seq → HasIts y desk_new → Goes x desk y desk_new l l_new
 
 abbrev pub GoesAll : State → State → Type 0
@@ -80,6 +82,23 @@ GoesAll s after = (c : ℕ) → Goes (client_at s c) (desk_in s.switch c) (clien
 each_one : (P Q : ℕ → Type 0) (l : List ℕ) → ((q : ℕ) → P q → Q q) → AllByRecursion P l → AllByRecursion Q l
 each_one P Q [] f all = tt
 each_one P Q (q ∷ l) f all = (f q all.0, each_one P Q l f all.1)
+
+-- but the last of rising numbers
+front_ascending : (l : List ℕ) (n : ℕ) → IsAscending (l ++ n ∷ []) → IsAscending l
+front_ascending [] n up = tt
+front_ascending (m ∷ l) n up = (front_all (λ q. m < q) l (n ∷ []) up.0, front_ascending l n up.1)
+  where
+    front_all : (P : ℕ → Type 0) (a b : List ℕ) → AllByRecursion P (a ++ b) → AllByRecursion P a
+    front_all P [] b all = tt
+    front_all P (q ∷ a) b all = (all.0, front_all P a b all.1)
+
+below_last : (l : List ℕ) (n : ℕ) → IsAscending (l ++ n ∷ []) → AllByRecursion (λ q. q < n) l
+below_last [] n up = tt
+below_last (m ∷ l) n up = (last l up.0, below_last l n up.1)
+  where
+    last : (a : List ℕ) → AllByRecursion (λ q. m < q) (a ++ n ∷ []) → m < n
+    last [] all = all.0
+    last (q ∷ a) all = last a all.1
 
 module _ (x : ClientState) (desk : Desk) (y : ClientState) (desk_new : Desk) (l l_new : List ℕ) where
   stays_past : y.seq ≡ x.seq → (HasIts x desk → HasIts y desk_new) → (q : ℕ) → IsPastAt x desk q → IsPastAt y desk_new q
@@ -97,30 +116,23 @@ module _ (x : ClientState) (desk : Desk) (y : ClientState) (desk_new : Desk) (l 
   goes_ascending : Goes x desk y desk_new l l_new → IsAscending l → AllByRecursion (IsPastAt x desk) l → IsAscending l_new
   goes_ascending (Stays is same on) up past = subst IsAscending (sym is) up
   goes_ascending (Passes is later) up past = subst IsAscending (sym is) up
+  goes_ascending (Leaves is same waits) up past = front_ascending l_new x.seq (subst IsAscending is up)
   goes_ascending (Adds is none same its) up past = subst IsAscending (sym is) (ascending_last l x.seq up (each_one (IsPastAt x desk) (λ q. q < x.seq) l (below_present none) past))
 
-  goes_past : Goes x desk y desk_new l l_new → AllByRecursion (IsPastAt x desk) l → AllByRecursion (IsPastAt y desk_new) l_new
-  goes_past (Stays is same on) past = subst (AllByRecursion (IsPastAt y desk_new)) (sym is) (each_one (IsPastAt x desk) (IsPastAt y desk_new) l (stays_past same on) past)
-  goes_past (Passes is later) past = subst (AllByRecursion (IsPastAt y desk_new)) (sym is) (each_one (IsPastAt x desk) (IsPastAt y desk_new) l (passes_past later) past)
-  goes_past (Adds is none same its) past =
+  goes_past : Goes x desk y desk_new l l_new → IsAscending l → AllByRecursion (IsPastAt x desk) l → AllByRecursion (IsPastAt y desk_new) l_new
+  goes_past (Stays is same on) up past = subst (AllByRecursion (IsPastAt y desk_new)) (sym is) (each_one (IsPastAt x desk) (IsPastAt y desk_new) l (stays_past same on) past)
+  goes_past (Passes is later) up past = subst (AllByRecursion (IsPastAt y desk_new)) (sym is) (each_one (IsPastAt x desk) (IsPastAt y desk_new) l (passes_past later) past)
+  goes_past (Leaves is same waits) up past = each_one (λ q. q < x.seq) (IsPastAt y desk_new) l_new (λ q low. inl (omega (arith, low, same))) (below_last l_new x.seq (subst IsAscending is up))
+  goes_past (Adds is none same its) up past =
       subst (AllByRecursion (IsPastAt y desk_new)) (sym is) (all_append (IsPastAt y desk_new) l (x.seq ∷ []) (each_one (IsPastAt x desk) (IsPastAt y desk_new) l (stays_past same (λ old. absurd (none old))) past) (inr (sym same, its), tt))
 
 ordered_by : (s after : State) → GoesAll s after → Ordered s → Ordered after
 ordered_by s after goes o = record {
   ascending = λ c. goes_ascending (client_at s c) (desk_in s.switch c) (client_at after c) (desk_in after.switch c) (seqs_of c s.history) (seqs_of c after.history) (goes c) (o.ascending c) (o.past c);
-  past = λ c. goes_past (client_at s c) (desk_in s.switch c) (client_at after c) (desk_in after.switch c) (seqs_of c s.history) (seqs_of c after.history) (goes c) (o.past c);
+  past = λ c. goes_past (client_at s c) (desk_in s.switch c) (client_at after c) (desk_in after.switch c) (seqs_of c s.history) (seqs_of c after.history) (goes c) (o.ascending c) (o.past c);
 }
 
 -- ---- entries of a client that doesn't wait
-
--- what holds of the filtered entries holds of those that pass the filter
-pub from_filter : (f : HistoryEntry → Bool) (P : HistoryEntry → Type 0) (h : History) → AllByRecursion P (filter f h) → AllByRecursion (λ e. f e ≡ true → P e) h
-from_filter f P [] all = tt
-from_filter f P (e ∷ h) all = by (f e) refl all (from_filter f P h)
-  where
-    by : (b : Bool) → f e ≡ b → AllByRecursion P (if b then e ∷ filter f h else filter f h) → (AllByRecursion P (filter f h) → AllByRecursion (λ g. f g ≡ true → P g) h) → (f e ≡ true → P e) × AllByRecursion (λ g. f g ≡ true → P g) h
-    by true holds all rest = (λ _. all.0, rest all.1)
-    by false fails all rest = (λ holds. let clash : true ≡ false = sym holds ∙ fails in cc, rest all)
 
 -- unanswered carried entries are of clients that wait
 waiting_ones : (plan : Plan) (at : Clients) (desks : ℕ → Desk) (k : ℕ) (m : Places) (es : History) (ps : List PlainPacket) → AreCarriedBy plan at desks k m es ps → AllByRecursion (λ e. e.pairs ≡ None → (at e.entry.client).phase ≡ Waiting) es
@@ -197,7 +209,74 @@ pub asking_still : (x : ClientState) → IsAsking x → x.phase ≢ Waiting
 asking_still x (inl e) w = let clash : Ready ≡ Waiting = sym e ∙ w in cc
 asking_still x (inr e) w = let clash : Locking ≡ Waiting = sym e ∙ w in cc
 
-module _ (plan : Plan) (s : State) (h : Holds plan s) where
+-- unanswered entries are of clients that wait
+waiting_now : (plan : Plan) (s : State) → HoldsNow plan s → AllByRecursion (λ e. is_carried e ≡ true → e.pairs ≡ None → (client_at s e.entry.client).phase ≡ Waiting) s.history
+waiting_now plan s (WhileUp h) =
+    from_filter is_carried (λ e. e.pairs ≡ None → (client_at s e.entry.client).phase ≡ Waiting) s.history (waiting_ones plan (client_at s) (desk_at h.now) 0 (hot_cells plan) (carried s.history) (machine.entered h.now) h.ties.carried_ones)
+waiting_now plan s (WhileLost h) = all s.history h.answered
+  where
+    nothing : {o : Option (List Pair)} → o ≡ None → IsSome o → ⊥
+    nothing n i = let wrong = subst IsSome n i in cc
+
+    all : (l : History) → AllAnswered l → AllByRecursion (λ e. is_carried e ≡ true → e.pairs ≡ None → (client_at s e.entry.client).phase ≡ Waiting) l
+    all [] answered = tt
+    all (e ∷ l) answered = (λ carries none. absurd (nothing none answered.0), all l answered.1)
+
+-- ---- the switch is lost, and rebuilt
+
+waiting_or_not : (p : Phase) → (p ≡ Waiting) ⊎ (p ≢ Waiting)
+waiting_or_not Ready = inr (λ e. cc)
+waiting_or_not Locking = inr (λ e. cc)
+waiting_or_not Aborting = inr (λ e. cc)
+waiting_or_not Logged = inr (λ e. cc)
+waiting_or_not Waiting = inl refl
+waiting_or_not Installing = inr (λ e. cc)
+waiting_or_not Finished = inr (λ e. cc)
+
+-- a client whose packet has its number, or none
+abbrev IsUnderWay : ClientState → Desk → Type 0
+IsUnderWay x desk = (x.phase ≡ Waiting) × IsNumbered desk
+
+under_way_or_not : (x : ClientState) (desk : Desk) → IsUnderWay x desk ⊎ (IsUnderWay x desk → ⊥)
+under_way_or_not x desk = elim (waiting_or_not x.phase) [
+  | inl w ↦ elim (numbered_or_not desk) [ inl n ↦ inl (w, n) | inr n ↦ inr (λ u. n u.1) ]
+  | inr w ↦ inr (λ u. w u.0)
+]
+
+-- a client that stays where the switch is lost has its answered entries left
+left_goes : (x y : ClientState) (desk : Desk) (l ones : List ℕ) → y ≡ x → (x.phase ≡ Waiting → IsNumbered desk → l ≡ ones ++ x.seq ∷ []) → ((x.phase ≡ Waiting → IsNumbered desk → ⊥) → l ≡ ones) → Goes x desk y Vacant l ones
+left_goes x y desk l ones same waits others = elim (under_way_or_not x desk) [
+  | inl u ↦ Leaves (waits u.0 u.1) (ap (λ (z : ClientState). z.seq) same) (ap (λ (z : ClientState). z.phase) same ∙ u.0)
+  | inr n ↦ Stays (sym (others (λ w m. n (w, m)))) (ap (λ (z : ClientState). z.seq) same) (λ its. on its n)
+]
+  where
+    on : HasIts x desk → (IsUnderWay x desk → ⊥) → HasIts y Vacant
+    on (inl i) n = inl (ap (λ (z : ClientState). z.phase) same ∙ i)
+    on (inr w) n = absurd (n w)
+
+-- and one that goes on where it is rebuilt gets its open entry
+again_goes : (x y : ClientState) (desk desk_new : Desk) (l ones l_new : List ℕ) → y ≡ resumed x → desk ≡ Vacant → l ≡ ones
+    → (y.phase ≡ Waiting → IsNumbered desk_new → l_new ≡ ones ++ y.seq ∷ []) → ((y.phase ≡ Waiting → IsNumbered desk_new → ⊥) → l_new ≡ ones) → Goes x desk y desk_new l l_new
+again_goes x y desk desk_new l ones l_new same vacant is waits others = elim (under_way_or_not y desk_new) [
+  | inl u ↦ Adds (waits u.0 u.1 ∙ ap (λ (q : ℕ). ones ++ q ∷ []) (ap (λ (z : ClientState). z.seq) same) ∙ ap (λ (m : List ℕ). m ++ x.seq ∷ []) (sym is)) (λ its. none its u.0) (ap (λ (z : ClientState). z.seq) same) (inr u)
+  | inr n ↦ Stays (others (λ w m. n (w, m)) ∙ sym is) (ap (λ (z : ClientState). z.seq) same) on
+]
+  where
+    phase : y.phase ≡ waits_again x.phase
+    phase = ap (λ (z : ClientState). z.phase) same
+
+    none : HasIts x desk → y.phase ≡ Waiting → ⊥
+    none (inl i) w = let clash : Installing ≡ Waiting = sym (ap waits_again i) ∙ sym phase ∙ w in cc
+    none (inr u) w = subst IsNumbered vacant u.1
+
+    on : HasIts x desk → HasIts y desk_new
+    on (inl i) = inl (phase ∙ ap waits_again i)
+    on (inr u) = absurd (subst IsNumbered vacant u.1)
+
+module _ (plan : Plan) (s : State) (h : HoldsNow plan s) where
+  abbrev f : FactsOf plan s
+  f = facts_of plan s h
+
   -- one client moved, and neither the desks nor the items of the others changed
   all_go : (c : ℕ) (after : State) (y : ClientState) → c < length s.clients → after.clients ≡ set s.clients c y → Goes (client_at s c) (desk_in s.switch c) y (desk_in after.switch c) (seqs_of c s.history) (seqs_of c after.history)
       → ((d : ℕ) → d ≢ c → desk_in after.switch d ≡ desk_in s.switch d) → ((d : ℕ) → d ≢ c → seqs_of d after.history ≡ seqs_of d s.history) → GoesAll s after
@@ -225,20 +304,19 @@ module _ (plan : Plan) (s : State) (h : Holds plan s) where
   pub own_lower : (c : ℕ) → IsAsking (client_at s c) → AllByRecursion (λ e. e.entry.client ≡ c → Below e.entry.stamp (next_sub (greatest (client_at s c).last (client_at s c).noted))) s.history
   own_lower c asks =
       own_below (client_at s) c (next_sub (greatest (client_at s c).last (client_at s c).noted)) s.history (asking_still (client_at s c) asks)
-      (λ f low. Below-from_AtMost f.entry.stamp (greatest (client_at s c).last (client_at s c).noted) (next_sub (greatest (client_at s c).last (client_at s c).noted))
-      (AtMost-trans f.entry.stamp (client_at s c).last (greatest (client_at s c).last (client_at s c).noted) low (AtMost-greatest (client_at s c).noted (client_at s c).last)) (Below-next_sub (greatest (client_at s c).last (client_at s c).noted)))
-      (from_filter is_answered (λ e. e.entry.client ≡ c → AtMost e.entry.stamp (client_at s c).last) s.history (h.ties.cold.own c))
-      (from_filter is_carried (λ e. e.pairs ≡ None → (client_at s e.entry.client).phase ≡ Waiting) s.history (waiting_ones plan (client_at s) (desk_at h.now) 0 (hot_cells plan) (carried s.history) (machine.entered h.now) h.ties.carried_ones))
-      h.ties.unanswered
+      (λ g low. Below-from_AtMost g.entry.stamp (greatest (client_at s c).last (client_at s c).noted) (next_sub (greatest (client_at s c).last (client_at s c).noted))
+      (AtMost-trans g.entry.stamp (client_at s c).last (greatest (client_at s c).last (client_at s c).noted) low (AtMost-greatest (client_at s c).noted (client_at s c).last)) (Below-next_sub (greatest (client_at s c).last (client_at s c).noted)))
+      (from_filter is_answered (λ e. e.entry.client ≡ c → AtMost e.entry.stamp (client_at s c).last) s.history (f.facts.cold.own c))
+      (waiting_now plan s h) f.facts.unanswered
 
   -- so it adds the client's entry behind its others
   pub decided_last : (c : ℕ) → IsAsking (client_at s c) → seqs_of c (decided plan s c (client_at s c)).history ≡ seqs_of c s.history ++ (client_at s c).seq ∷ []
   unfolding decided
-  decided_last c asks = own_last c _ s.history h.ties.sorted refl (own_lower c asks)
+  decided_last c asks = own_last c _ s.history f.facts.sorted refl (own_lower c asks)
 
   decided_others : (c d : ℕ) → d ≢ c → seqs_of d (decided plan s c (client_at s c)).history ≡ seqs_of d s.history
   unfolding decided
-  decided_others c d n = others_same d _ s.history h.ties.sorted (λ e. n (sym e))
+  decided_others c d n = others_same d _ s.history f.facts.sorted (λ e. n (sym e))
 
   decides : (c : ℕ) → c < length s.clients → IsAsking (client_at s c) → GoesAll s (decided plan s c (client_at s c))
   unfolding decided
@@ -269,8 +347,27 @@ module _ (plan : Plan) (s : State) (h : Holds plan s) where
           by true = Passes is (omega arith)
           by false = Stays is refl (λ its. inl refl)
 
+  loses : (c : ℕ) (now : Switch) → c < length s.clients → (client_at s c).phase ≡ Ready → s.switch ≡ Some now → GoesAll s (lost plan s c (client_at s c))
+  unfolding lost
+  loses c now lt phase up d =
+      let g = up_of plan s h now up in
+      let desk : desk_in s.switch d ≡ desk_at g.now d = ap (λ (o : Option Switch). desk_in o d) g.up in
+      let ones = ones_of plan s g d in
+      elim (same_or_not d c) [
+        | inl e ↦ Passes (sym (ones.others (λ w n. let clash : Ready ≡ Waiting = sym phase ∙ subst (λ (k : ℕ). (client_at s k).phase ≡ Waiting) e w in cc))) (later (ap (λ (z : ClientState). z.seq) (here d e)) (ap (λ (k : ℕ). (client_at s k).seq) e))
+        | inr n ↦ subst (λ (k : Desk). Goes (client_at s d) k (client_at (lost plan s c (client_at s c)) d) Vacant (seqs_of d s.history) (seqs_of d (answered_ones s.history))) (sym desk)
+            (left_goes (client_at s d) (client_at (lost plan s c (client_at s c)) d) (desk_at g.now d) (seqs_of d s.history) (seqs_of d (answered_ones s.history)) (others_stay s.clients c (next_item plan c (client_at s c)) d n) ones.waits ones.others)
+      ]
+    where
+      here : (k : ℕ) → k ≡ c → get_or (set s.clients c (next_item plan c (client_at s c))) k (at_item 0 1 zero_stamp) ≡ next_item plan c (client_at s c)
+      here k e = ap (λ (j : ℕ). get_or (set s.clients c (next_item plan c (client_at s c))) j (at_item 0 1 zero_stamp)) e ∙ moved_client s.clients c (next_item plan c (client_at s c)) lt
+
+      later : {a b n : ℕ} → a ≡ n + 1 → b ≡ n → b < a
+      later e g = omega (arith, e, g)
+
   by_client : (c : ℕ) (after : State) → c < length s.clients → Move plan s c after → GoesAll s after
   unfolding granted refused released logged installed
+  by_client c after lt (Loses now phase item up is) = subst (GoesAll s) (sym is) (loses c now lt phase up)
   by_client c after lt (Grants op asks next free is) =
       alone c after _ lt (ap (λ (z : State). z.clients) is) (ap (λ (z : State). z.switch) is) (ap (λ (z : State). z.history) is)
       (quiet (client_at s c) (desk_in s.switch c) _ (desk_in s.switch c) (seqs_of c s.history) (seqs_of c s.history) (asking_none (client_at s c) (desk_in s.switch c) asks) refl (inl refl))
@@ -298,8 +395,9 @@ module _ (plan : Plan) (s : State) (h : Holds plan s) where
           by true = Passes refl (omega arith)
           by false = Stays refl refl (λ its. inl phase)
 
-  -- ---- moves at the switch
+-- ---- moves at the switch
 
+module _ (plan : Plan) (s : State) (h : Holds plan s) where
   -- no desk changed
   switches : (now next : Switch) → s.switch ≡ Some now → ((d : ℕ) → desk_at next d ≡ desk_at now d) → GoesAll s (switched s next)
   unfolding switched
@@ -352,12 +450,36 @@ module _ (plan : Plan) (s : State) (h : Holds plan s) where
     | inr l ↦ subst (λ (k : Desk). GoesAll s (behind_entry s c k (next_number h.now) next)) (sym l.desk) (switches h.now next h.up l.desks)
   ]
 
-  pub goes_of : (after : State) (actor : Actor) → Moved plan s after actor → GoesAll s after
-  goes_of after actor (ByClient c within move) = by_client c after within move
-  goes_of after actor (AtPort c now next up at is) =
-      let same : now ≡ h.now = same_switch up h.up in
-      subst (GoesAll s) (sym (is ∙ ap (λ (n : Switch). behind_entry s c (desk_at n c) (next_number n) next) same)) (at_port c next (subst (λ (n : Switch). switch.enter plan.shape n c ≡ Some next) same at))
-  goes_of after actor (AtStage x now next up at is) = subst (GoesAll s) (sym is) (switches now next up (advance_effect plan.shape now next x at).desks)
+-- ---- recovery
+
+recovers : (plan : Plan) (s after : State) (order : List Task) → HoldsLost plan s → HoldsNow plan after → after ≡ recovered plan s order → GoesAll s after
+recovers plan s after order h next is d = by next
+  where
+    there : {o : Option Switch} → after.switch ≡ o → o ≡ None → ⊥
+    there at none = clash (sym (up_recovered plan s order) ∙ ap (λ (z : State). z.switch) (sym is) ∙ at ∙ none)
+      where
+        clash : {now : Switch} → Some now ≡ None → ⊥
+        clash e = cc
+
+    whole : answered_ones after.history ≡ s.history
+    whole = ap (λ (z : State). answered_ones z.history) is ∙ ones_recovered plan s order ∙ all_answered s.history h.answered
+
+    by : HoldsNow plan after → Goes (client_at s d) (desk_in s.switch d) (client_at after d) (desk_in after.switch d) (seqs_of d s.history) (seqs_of d after.history)
+    by (WhileLost lost) = absurd (there refl lost.lost)
+    by (WhileUp g) =
+        let ones = ones_of plan after g d in
+        subst (λ (k : Desk). Goes (client_at s d) (desk_in s.switch d) (client_at after d) k (seqs_of d s.history) (seqs_of d after.history)) (sym (ap (λ (o : Option Switch). desk_in o d) g.up))
+        (again_goes (client_at s d) (client_at after d) (desk_in s.switch d) (desk_at g.now d) (seqs_of d s.history) (seqs_of d (answered_ones after.history)) (seqs_of d after.history)
+        (client_recovered plan s after order is d) (ap (λ (o : Option Switch). desk_in o d) h.lost) (ap (seqs_of d) (sym whole)) ones.waits ones.others)
+
+pub goes_of : (plan : Plan) (s after : State) (actor : Actor) → HoldsNow plan s → HoldsNow plan after → Moved plan s after actor → GoesAll s after
+goes_of plan s after actor h next (ByClient c within move) = by_client plan s h c after within move
+goes_of plan s after actor h next (AtPort c now to up at is) =
+    let g = up_of plan s h now up in
+    let same : now ≡ g.now = same_switch up g.up in
+    subst (GoesAll s) (sym (is ∙ ap (λ (n : Switch). behind_entry s c (desk_at n c) (next_number n) to) same)) (at_port plan s g c to (subst (λ (n : Switch). switch.enter plan.shape n c ≡ Some to) same at))
+goes_of plan s after actor h next (AtStage x now to up at is) = subst (GoesAll s) (sym is) (switches plan s (up_of plan s h now up) now to up (advance_effect plan.shape now to x at).desks)
+goes_of plan s after actor h next (Recovers order down found is) = recovers plan s after order (lost_of plan s h down) next is
 
 -- ---- all states
 
@@ -373,9 +495,9 @@ past_of x desk q (inr p) = inr (p.0, by p.1)
     by (inl i) = inr i
     by (inr w) = inl w.0
 
-module _ (plan : Plan) (holds : (z : State) → IsReached plan z → Holds plan z) where
+module _ (plan : Plan) (holds : (z : State) → IsReached plan z → HoldsNow plan z) where
   pub ordered : (s : State) → IsReached plan s → Ordered s
-  ordered s reached = of_reached plan Ordered (first_ordered plan) (λ z next actor r o is. ordered_by z next (goes_of plan z (holds z r) next actor (move_of plan z actor next is)) o) s reached
+  ordered s reached = of_reached plan Ordered (first_ordered plan) (λ z next actor r o is. ordered_by z next (goes_of plan z next actor (holds z r) (holds next (reached_step plan z next actor r is)) (move_of plan z actor next is)) o) s reached
 
   pub items_in_order : (s : State) → IsReached plan s → HasItemsInOrder s
   items_in_order s reached =

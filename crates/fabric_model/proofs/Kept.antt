@@ -1,4 +1,4 @@
--- What holds between any two moves is kept by every move.
+-- What holds between any two moves is kept by every move while the switch is up.
 use Rattle.std.proofs.Common.{◌≡◌, ℕ, ◌+◌, ◌<◌, ◌≤◌, Bool, true, false, List, [], ◌∷◌, length, slice_get, unwrap_or, Option, Some, None, inl, inr, refl, sym, ap, subst, ◌∙◌, arith, if◌then◌else◌}
 use Rattle.txn_model.specs.declared.op.Op.{Op}
 use Rattle.switch_packet.specs.Replay.{replay_all}
@@ -19,17 +19,18 @@ use Rattle.core_model.specs.State.{ClientState, script_now}
 use Rattle.core_model.proofs.Legal.{all_distinct}
 use Rattle.fabric_model.specs.Intents.{packet_now}
 use Rattle.fabric_model.specs.Fits.{PacketsFit}
-use Rattle.fabric_model.specs.Holds.{Holds}
+use Rattle.fabric_model.specs.Holds.{HostFacts, Holds, HoldsLost, HoldsNow, WhileUp, WhileLost}
 use Rattle.fabric_model.specs.State.{State, client_at}
 use Rattle.fabric_model.specs.Step as fabric
-use Rattle.fabric_model.specs.Step.{has_hot, behind_entry, step}
+use Rattle.fabric_model.specs.Step.{lost, has_hot, behind_entry}
 use Rattle.fabric_model.specs.Intents.{values_of}
-use Rattle.fabric_model.proofs.KeptByClients.{granted_holds, refused_holds, released_holds, logged_holds, installed_holds}
+use Rattle.fabric_model.proofs.KeptByClients.{IsMoveOf, holds_moved, granted_moves, refused_moves, released_moves, logged_moves, installed_moves}
 use Rattle.fabric_model.proofs.KeptByDecision.{decided_holds}
 use Rattle.fabric_model.proofs.KeptByEntry.{entered_holds}
 use Rattle.fabric_model.proofs.KeptByReply.{taken_holds}
 use Rattle.fabric_model.proofs.KeptByStages.{switched_holds, posted_holds}
-use Rattle.fabric_model.proofs.MoveKinds.{Move, Grants, Refuses, Releases, Decides, Logs, Posts, Takes, Installs, Moved, ByClient, AtPort, AtStage, move_of}
+use Rattle.fabric_model.proofs.TiesKept.{host_facts}
+use Rattle.fabric_model.proofs.MoveKinds.{Move, Loses, Grants, Refuses, Releases, Decides, Logs, Posts, Takes, Installs, Moved, ByClient, AtPort, AtStage, Recovers}
 use Rattle.fabric_model.specs.ColdFacts.{FitsPhase}
 use Rattle.core_model.specs.Asking.{IsAsking}
 use Rattle.core_model.specs.Locks.{cold_ops}
@@ -52,7 +53,7 @@ pub some_hot : (plan : Plan) (ops : List Op) → has_hot plan ops ≡ true → 1
 some_hot plan [] e = cc
 some_hot plan (op ∷ ops) e = omega arith
 
-some_cold : (plan : Plan) (ops : List Op) → 1 ≤ length (cold_ops plan.layout ops) → 1 ≤ length ops
+pub some_cold : (plan : Plan) (ops : List Op) → 1 ≤ length (cold_ops plan.layout ops) → 1 ≤ length ops
 some_cold plan [] e = absurd (omega arith)
 some_cold plan (op ∷ ops) e = omega arith
 
@@ -81,7 +82,8 @@ answered_desk now c answer has = by (desk_at now c) refl has
     by (Posted p) is e = cc
     by (Entered k) is e = done k (is_done (flight_at now.flights k)) is e
 
-module _ (plan : Plan) (sound : IsSound plan) (fits : PacketsFit plan) (s : State) (holds : Holds plan s) where
+module _ (plan : Plan) (sound : IsSound plan) (fits : PacketsFit plan) (s : State) (holds : Holds plan s)
+    (loses : (c : ℕ) → c < length s.clients → (client_at s c).phase ≡ Ready → HoldsLost plan (lost plan s c (client_at s c))) where
   same_switch : (now : Switch) → s.switch ≡ Some now → now ≡ holds.now
   same_switch now up = same_some (sym up ∙ holds.up)
 
@@ -92,18 +94,28 @@ module _ (plan : Plan) (sound : IsSound plan) (fits : PacketsFit plan) (s : Stat
   asks_fit c (inl is) = let fit : FitsPhase plan c (client_at s c) Ready = subst (λ (p : Phase). FitsPhase plan c (client_at s c) p) is (holds.ties.cold.fits c) in omega (arith, ap length fit.0)
   asks_fit c (inr is) = let fit : FitsPhase plan c (client_at s c) Locking = subst (λ (p : Phase). FitsPhase plan c (client_at s c) p) is (holds.ties.cold.fits c) in fit.0
 
-  kept_by_client : (c : ℕ) (after : State) → c < length s.clients → Move plan s c after → Holds plan after
-  kept_by_client c after lt (Grants op asks next free is) = subst (Holds plan) (sym is) (granted_holds plan (all_distinct plan sound) s c lt holds op asks next free)
-  kept_by_client c after lt (Refuses op by asks next held is) = subst (Holds plan) (sym is) (refused_holds plan (all_distinct plan sound) s c lt holds op by asks)
-  kept_by_client c after lt (Releases phase is) = subst (Holds plan) (sym is) (released_holds plan (all_distinct plan sound) s c lt holds phase)
-  kept_by_client c after lt (Decides asks next cold some is) = subst (Holds plan) (sym is)
-      (decided_holds plan (all_distinct plan sound) s c lt holds (visit_of plan c (client_at s c).seq sound (some_cold plan (script_now plan c (client_at s c)) (omega (arith, some, asks_fit c asks)))) asks next cold some)
-  kept_by_client c after lt (Logs asks next hot is) = subst (Holds plan) (sym is) (logged_holds plan (all_distinct plan sound) s c lt holds asks next hot)
+  abbrev count : ℕ
+  count = length (entered holds.now)
+
+  facts : HostFacts plan count (client_at s) s.store s.history
+  facts = host_facts plan (client_at s) s.store s.history (desk_at holds.now) (entered holds.now) holds.ties
+
+  by_move : (c : ℕ) (after z : State) → c < length s.clients → after ≡ z → IsMoveOf plan s count c z → HoldsNow plan after
+  by_move c after z lt is move = WhileUp (subst (Holds plan) (sym is) (holds_moved plan s count c lt z move holds refl))
+
+  kept_by_client : (c : ℕ) (after : State) → c < length s.clients → Move plan s c after → HoldsNow plan after
+  kept_by_client c after lt (Loses now phase item up is) = WhileLost (subst (HoldsLost plan) (sym is) (loses c lt phase))
+  kept_by_client c after lt (Grants op asks next free is) = by_move c after _ lt is (granted_moves plan (all_distinct plan sound) s c lt count facts op asks next free)
+  kept_by_client c after lt (Refuses op by asks next held is) = by_move c after _ lt is (refused_moves plan (all_distinct plan sound) s c lt count facts op by asks)
+  kept_by_client c after lt (Releases phase is) = by_move c after _ lt is (released_moves plan (all_distinct plan sound) s c lt count facts phase)
+  kept_by_client c after lt (Decides asks next cold some is) = WhileUp (subst (Holds plan) (sym is)
+      (decided_holds plan (all_distinct plan sound) s c lt holds (visit_of plan c (client_at s c).seq sound (some_cold plan (script_now plan c (client_at s c)) (omega (arith, some, asks_fit c asks)))) asks next cold some))
+  kept_by_client c after lt (Logs asks next hot is) = by_move c after _ lt is (logged_moves plan (all_distinct plan sound) s c lt count facts asks next hot)
   kept_by_client c after lt (Posts now next phase up to is) =
       let x = client_at s c in
       let fit : FitsSwitch plan.shape (packet_now plan c x) = fits c x.seq (values_of x.noted) (holds.ties.hot_ones c (inl phase)) in
       let by = on now next (Post c (packet_now plan c x)) up (fit, client_of_packet plan c x) to in
-      subst (Holds plan) (sym is) (posted_holds plan s c lt holds next phase by.reached by.desks (post_effect holds.now next c (packet_now plan c x) (ap (λ (w : Switch). post w c (packet_now plan c x)) (sym (same_switch now up)) ∙ to)))
+      WhileUp (subst (Holds plan) (sym is) (posted_holds plan s c lt holds next phase by.reached by.desks (post_effect holds.now next c (packet_now plan c x) (ap (λ (w : Switch). post w c (packet_now plan c x)) (sym (same_switch now up)) ∙ to))))
   kept_by_client c after lt (Takes now next answer phase up has to is) =
       let x = client_at s c in
       let here = same_switch now up in
@@ -113,10 +125,10 @@ module _ (plan : Plan) (sound : IsSound plan) (fits : PacketsFit plan) (s : Stat
       let by = on now next (Take c) up tt to in
       let replayed = answers_replayed plan.shape (hot_cells plan) holds.now c answer holds.reached has_now in
       let place : replayed.place ≡ from.k = omega (arith, replayed.number, from.number) in
-      subst (Holds plan) (sym is) (taken_holds plan (all_distinct plan sound) s c lt holds from.k from.desk
+      WhileUp (subst (Holds plan) (sym is) (taken_holds plan (all_distinct plan sound) s c lt holds from.k from.desk
       (visit_of plan c x.seq sound (some_hot plan (script_now plan c x) (holds.ties.hot_ones c (inr phase)))) answer.pairs
-      (ap (slice_get (replay_all (entered holds.now) (hot_cells plan)).pairs) (sym place) ∙ replayed.pairs) next by.reached by.desks (take_effect holds.now next c to_now) answer.number from.number)
-  kept_by_client c after lt (Installs p phase at is) = subst (Holds plan) (sym is) (installed_holds plan (all_distinct plan sound) s c lt holds p phase at)
+      (ap (slice_get (replay_all (entered holds.now) (hot_cells plan)).pairs) (sym place) ∙ replayed.pairs) next by.reached by.desks (take_effect holds.now next c to_now) answer.number from.number))
+  kept_by_client c after lt (Installs p phase at is) = by_move c after _ lt is (installed_moves plan (all_distinct plan sound) s c lt count facts p phase at)
 
   kept_at_port : (c : ℕ) (now next : Switch) → s.switch ≡ Some now → enter plan.shape now c ≡ Some next → Holds plan (behind_entry s c (desk_at now c) (next_number now) next)
   kept_at_port c now next up to =
@@ -131,13 +143,14 @@ module _ (plan : Plan) (sound : IsSound plan) (fits : PacketsFit plan) (s : Stat
         | inr l ↦ subst (λ (d : Desk). Holds plan (behind_entry s c d (next_number holds.now) next)) (sym l.desk) (switched_holds plan s holds next by.reached by.desks l.desks l.entered)
       ])
 
-  pub kept : (after : State) (actor : Actor) → Moved plan s after actor → Holds plan after
-  kept after actor (ByClient c within move) = kept_by_client c after within move
-  kept after actor (AtPort c now next up to is) = subst (Holds plan) (sym is) (kept_at_port c now next up to)
-  kept after actor (AtStage x now next up to is) =
+  never : s.switch ≡ None → ⊥
+  never down = let clash : None ≡ Some holds.now = sym down ∙ holds.up in cc
+
+  pub kept_up : (after : State) (actor : Actor) → Moved plan s after actor → HoldsNow plan after
+  kept_up after actor (ByClient c within move) = kept_by_client c after within move
+  kept_up after actor (AtPort c now next up to is) = WhileUp (subst (Holds plan) (sym is) (kept_at_port c now next up to))
+  kept_up after actor (AtStage x now next up to is) =
       let by = on now next (Advance x) up tt to in
       let effect = advance_effect plan.shape holds.now next x (ap (λ (w : Switch). advance plan.shape w x) (sym (same_switch now up)) ∙ to) in
-      subst (Holds plan) (sym is) (switched_holds plan s holds next by.reached by.desks effect.desks effect.entered)
-
-pub kept_by_step : (plan : Plan) → IsSound plan → PacketsFit plan → (s after : State) (actor : Actor) → Holds plan s → step plan s actor ≡ Some after → Holds plan after
-kept_by_step plan sound fits s after actor holds is = kept plan sound fits s holds after actor (move_of plan s actor after is)
+      WhileUp (subst (Holds plan) (sym is) (switched_holds plan s holds next by.reached by.desks effect.desks effect.entered))
+  kept_up after actor (Recovers order down found is) = absurd (never down)

@@ -39,15 +39,15 @@ use Rattle.core_model.proofs.Moves.{moved_client, others_stay}
 use Rattle.core_model.proofs.Stamps.{above_all, Below-from_AtMost, entry_cmp-Below}
 use Rattle.fabric_model.specs.Carried.{is_carried, carried, AreCarriedBy, FitsDesk, pending_entry}
 use Rattle.fabric_model.specs.ColdFacts.{FitsPhase, ColdFacts}
-use Rattle.fabric_model.specs.Holds.{answered_ones, Holds}
+use Rattle.fabric_model.specs.Holds.{HostFacts, Holds}
 use Rattle.fabric_model.specs.Intents.{values_of}
-use Rattle.fabric_model.specs.State.{State, client_at}
+use Rattle.fabric_model.specs.State.{State, client_at, answered_ones}
 use Rattle.fabric_model.specs.Step.{decided, has_hot, next_op}
 use Rattle.fabric_model.proofs.Answering.{kept_by_answer}
 use Rattle.fabric_model.proofs.CarriedLaws.{carried_stays, carried-with_entry}
 use Rattle.fabric_model.proofs.EntriesKept.{answered_ones-with_entry, own_of_all}
 use Rattle.fabric_model.proofs.JoinedSteps.{length-joined_from, joined_finds, local-joined, length-packet}
-use Rattle.fabric_model.proofs.TiesKept.{pending_stays}
+use Rattle.fabric_model.proofs.TiesKept.{pending_stays, host_facts, tied}
 
 -- the greatest of stamps has the number of one of them
 pub number_of_greatest : (most : ℕ) (last : Stamp) (noted : List Seen) → last.number ≤ most → AllByRecursion (λ seen. seen.stamp.number ≤ most) noted → (greatest last noted).number ≤ most
@@ -103,12 +103,10 @@ no_pairs : (l : List Pair) → length l ≡ 0 → l ≡ []
 no_pairs [] e = refl
 no_pairs (p ∷ l) e = absurd (omega (arith, e))
 
-module _ (plan : Plan) (distinct : (c seq : ℕ) → IsDistinct (script_at plan c seq)) (s : State) (c : ℕ) (lt : c < length s.clients) (holds : Holds plan s) (visit : IsOneVisit plan.layout (script_now plan c (client_at s c))) where
+module _ (plan : Plan) (distinct : (c seq : ℕ) → IsDistinct (script_at plan c seq)) (s : State) (c : ℕ) (lt : c < length s.clients) (most : ℕ) (facts : HostFacts plan most (client_at s) s.store s.history)
+    (own : (client_at s c).phase ≢ Waiting → AllByRecursion (λ f. f.entry.client ≡ c → AtMost f.entry.stamp (client_at s c).last) s.history) (visit : IsOneVisit plan.layout (script_now plan c (client_at s c))) where
   abbrev x : ClientState
   x = client_at s c
-
-  abbrev most : ℕ
-  most = length (entered holds.now)
 
   abbrev reply : List Pair
   reply = joined plan.layout (script_now plan c x) (values_of x.noted) []
@@ -142,56 +140,43 @@ module _ (plan : Plan) (distinct : (c seq : ℕ) → IsDistinct (script_at plan 
       subst (λ (l : List Pair). IsLocalFrom [] ops (joined plan.layout ops (values_of x.noted) l)) empty (local-joined plan.shape plan.layout c x.seq ops (values_of x.noted) (hot_cells plan) visit)
 
   asks_fit : IsAsking x → (x.installed ≡ 0) × (length x.noted ≤ length (cold_ops plan.layout (script_now plan c x)))
-  asks_fit (inl is) = let fit : FitsPhase plan c x Ready = subst (λ (p : Phase). FitsPhase plan c x p) is (holds.ties.cold.fits c) in (fit.1, omega (arith, ap length fit.0))
-  asks_fit (inr is) = let fit : FitsPhase plan c x Locking = subst (λ (p : Phase). FitsPhase plan c x p) is (holds.ties.cold.fits c) in (fit.1, fit.0)
+  asks_fit (inl is) = let fit : FitsPhase plan c x Ready = subst (λ (p : Phase). FitsPhase plan c x p) is (facts.cold.fits c) in (fit.1, omega (arith, ap length fit.0))
+  asks_fit (inr is) = let fit : FitsPhase plan c x Locking = subst (λ (p : Phase). FitsPhase plan c x p) is (facts.cold.fits c) in (fit.1, fit.0)
 
   not_in : (p : Phase) → (Ready ≡ p → ⊥) → (Locking ≡ p → ⊥) → IsAsking x → x.phase ≢ p
   not_in p ready locking (inl is) e = ready (sym is ∙ e)
   not_in p ready locking (inr is) e = locking (sym is ∙ e)
 
-  pub decided_holds : IsAsking x → next_op plan c x ≡ None → has_hot plan (script_now plan c x) ≡ false → 0 < length x.noted → Holds plan (decided plan s c x)
+  pub decided_facts : IsAsking x → next_op plan c x ≡ None → has_hot plan (script_now plan c x) ≡ false → 0 < length x.noted → HostFacts plan most (client_at (decided plan s c x)) s.store (with_entry entry s.history)
   unfolding decided
-  decided_holds asks next cold some = record {
-    now = holds.now;
-    up = holds.up;
-    reached = holds.reached;
-    desks = holds.desks ∙ sym (length-set s.clients c y);
-    ties = record {
-      cold = subst (ColdFacts plan new s.store) (sym (answered_ones-with_entry entry s.history refl holds.ties.sorted))
-          (kept_by_answer plan at new s.store (answered_ones s.history) c stamp reply others undecided (asks_fit asks).0 all_locked (λ d. distinct d (at d).seq) holds.ties.cold above.0 above.1
-          (length-joined_from plan.layout [] (script_now plan c x) (values_of x.noted) []) (local cold)
-          (λ k op p seen is noted. joined_finds plan.layout [] (script_now plan c x) (values_of x.noted) [] k op p seen.value is (slice_get-map (λ (z : Seen). z.value) x.noted k ∙ ap (option_map (λ (z : Seen). z.value)) noted)) mine);
-      installs = λ d. elim (same_or_not d c) [
-        | inl e ↦ subst (λ (i : ℕ). (new i).phase ≡ Installing → (new i).installed < length (new i).noted) (sym e) (subst (λ (z : ClientState). z.phase ≡ Installing → z.installed < length z.noted) (sym mine) (λ i. omega (arith, some, (asks_fit asks).0)))
-        | inr n ↦ subst (λ (z : ClientState). z.phase ≡ Installing → z.installed < length z.noted) (sym (others d n)) (holds.ties.installs d)
+  decided_facts asks next cold some = record {
+    cold = subst (ColdFacts plan new s.store) (sym (answered_ones-with_entry entry s.history refl facts.sorted))
+        (kept_by_answer plan at new s.store (answered_ones s.history) c stamp reply others undecided (asks_fit asks).0 all_locked (λ d. distinct d (at d).seq) facts.cold above.0 above.1
+        (length-joined_from plan.layout [] (script_now plan c x) (values_of x.noted) []) (local cold)
+        (λ k op p seen is noted. joined_finds plan.layout [] (script_now plan c x) (values_of x.noted) [] k op p seen.value is (slice_get-map (λ (z : Seen). z.value) x.noted k ∙ ap (option_map (λ (z : Seen). z.value)) noted)) mine);
+    installs = λ d. elim (same_or_not d c) [
+      | inl e ↦ subst (λ (i : ℕ). (new i).phase ≡ Installing → (new i).installed < length (new i).noted) (sym e) (subst (λ (z : ClientState). z.phase ≡ Installing → z.installed < length z.noted) (sym mine) (λ i. omega (arith, some, (asks_fit asks).0)))
+      | inr n ↦ subst (λ (z : ClientState). z.phase ≡ Installing → z.installed < length z.noted) (sym (others d n)) (facts.installs d)
+    ];
+    hot_ones = λ d. elim (same_or_not d c) [
+      | inl e ↦ subst (λ (i : ℕ). ((new i).phase ≡ Logged) ⊎ ((new i).phase ≡ Waiting) → has_hot plan (script_now plan i (new i)) ≡ true) (sym e) (subst (λ (z : ClientState). (z.phase ≡ Logged) ⊎ (z.phase ≡ Waiting) → has_hot plan (script_now plan c z) ≡ true) (sym mine) (λ i. absurd (neither i)))
+      | inr n ↦ subst (λ (z : ClientState). (z.phase ≡ Logged) ⊎ (z.phase ≡ Waiting) → has_hot plan (script_now plan d z) ≡ true) (sym (others d n)) (facts.hot_ones d)
+    ];
+    sorted = sorted-with_entry entry s.history facts.sorted (ties_with_none entry x.last s.history above.0
+        (own not_waiting));
+    unanswered = all-with_entry (λ e. e.pairs ≡ None → is_carried e ≡ true) entry s.history facts.unanswered (λ none. absurd (some_none none));
+    hosts = all-with_entry (λ e. is_carried e ≡ false → has_hot plan (script_at plan e.entry.client e.entry.seq) ≡ false) entry s.history facts.hosts (λ _. cold);
+    covered = record {
+      last = λ d. elim (same_or_not d c) [
+        | inl e ↦ subst (λ (i : ℕ). (new i).last.number ≤ most) (sym e) (subst (λ (z : ClientState). z.last.number ≤ most) (sym mine) stamp_covered)
+        | inr n ↦ subst (λ (z : ClientState). z.last.number ≤ most) (sym (others d n)) (facts.covered.last d)
       ];
-      hot_ones = λ d. elim (same_or_not d c) [
-        | inl e ↦ subst (λ (i : ℕ). ((new i).phase ≡ Logged) ⊎ ((new i).phase ≡ Waiting) → has_hot plan (script_now plan i (new i)) ≡ true) (sym e) (subst (λ (z : ClientState). (z.phase ≡ Logged) ⊎ (z.phase ≡ Waiting) → has_hot plan (script_now plan c z) ≡ true) (sym mine) (λ i. absurd (neither i)))
-        | inr n ↦ subst (λ (z : ClientState). (z.phase ≡ Logged) ⊎ (z.phase ≡ Waiting) → has_hot plan (script_now plan d z) ≡ true) (sym (others d n)) (holds.ties.hot_ones d)
+      noted = λ d. elim (same_or_not d c) [
+        | inl e ↦ subst (λ (i : ℕ). AllByRecursion (λ seen. seen.stamp.number ≤ most) (new i).noted) (sym e) (subst (λ (z : ClientState). AllByRecursion (λ seen. seen.stamp.number ≤ most) z.noted) (sym mine) (facts.covered.noted c))
+        | inr n ↦ subst (λ (z : ClientState). AllByRecursion (λ seen. seen.stamp.number ≤ most) z.noted) (sym (others d n)) (facts.covered.noted d)
       ];
-      sorted = sorted-with_entry entry s.history holds.ties.sorted (ties_with_none entry x.last s.history above.0
-          (own_of_all plan at (desk_at holds.now) (hot_cells plan) s.history (entered holds.now) c not_waiting holds.ties.unanswered holds.ties.carried_ones (holds.ties.cold.own c)));
-      unanswered = all-with_entry (λ e. e.pairs ≡ None → is_carried e ≡ true) entry s.history holds.ties.unanswered (λ none. absurd (some_none none));
-      hosts = all-with_entry (λ e. is_carried e ≡ false → has_hot plan (script_at plan e.entry.client e.entry.seq) ≡ false) entry s.history holds.ties.hosts (λ _. cold);
-      carried_ones = subst (λ (l : History). AreCarriedBy plan new (desk_at holds.now) 0 (hot_cells plan) l (entered holds.now)) (sym (carried-with_entry entry s.history (risen (greatest x.last x.noted).sub)))
-          (carried_stays plan at new (desk_at holds.now) (desk_at holds.now) 0 (hot_cells plan) (carried s.history) (entered holds.now)
-          (λ j e values p. pending_stays plan at new (desk_at holds.now) (desk_at holds.now) j e values (others e.entry.client (λ same. not_waiting (subst (λ (i : ℕ). (at i).phase ≡ Waiting) same p.phase))) refl p) holds.ties.carried_ones);
-      under_way = λ d. desk_stays plan s.history (with_entry entry s.history) d (new d) (desk_at holds.now d) (λ f. still_there entry f s.history holds.ties.sorted) (elim (same_or_not d c) [
-        | inl e ↦ subst (λ (i : ℕ). FitsDesk plan s.history i (new i) (desk_at holds.now i)) (sym e) (subst (λ (z : ClientState). FitsDesk plan s.history c z (desk_at holds.now c)) (sym mine) (vacant (desk_at holds.now c) (holds.ties.under_way c)))
-        | inr n ↦ subst (λ (z : ClientState). FitsDesk plan s.history d z (desk_at holds.now d)) (sym (others d n)) (holds.ties.under_way d)
-      ]);
-      covered = record {
-        last = λ d. elim (same_or_not d c) [
-          | inl e ↦ subst (λ (i : ℕ). (new i).last.number ≤ most) (sym e) (subst (λ (z : ClientState). z.last.number ≤ most) (sym mine) stamp_covered)
-          | inr n ↦ subst (λ (z : ClientState). z.last.number ≤ most) (sym (others d n)) (holds.ties.covered.last d)
-        ];
-        noted = λ d. elim (same_or_not d c) [
-          | inl e ↦ subst (λ (i : ℕ). AllByRecursion (λ seen. seen.stamp.number ≤ most) (new i).noted) (sym e) (subst (λ (z : ClientState). AllByRecursion (λ seen. seen.stamp.number ≤ most) z.noted) (sym mine) (holds.ties.covered.noted c))
-          | inr n ↦ subst (λ (z : ClientState). AllByRecursion (λ seen. seen.stamp.number ≤ most) z.noted) (sym (others d n)) (holds.ties.covered.noted d)
-        ];
-        store_has = holds.ties.covered.store_has;
-        entries = all-with_entry (λ e. e.entry.stamp.number ≤ most) entry s.history holds.ties.covered.entries stamp_covered;
-      };
+      store_has = facts.covered.store_has;
+      entries = all-with_entry (λ e. e.entry.stamp.number ≤ most) entry s.history facts.covered.entries stamp_covered;
     };
   }
     where
@@ -208,7 +193,7 @@ module _ (plan : Plan) (distinct : (c seq : ℕ) → IsDistinct (script_at plan 
       above = above_all x.last x.noted
 
       stamp_covered : stamp.number ≤ most
-      stamp_covered = number_of_greatest most x.last x.noted (holds.ties.covered.last c) (holds.ties.covered.noted c)
+      stamp_covered = number_of_greatest most x.last x.noted (facts.covered.last c) (facts.covered.noted c)
 
       some_none : Some reply ≡ None → ⊥
       some_none e = cc
@@ -217,7 +202,48 @@ module _ (plan : Plan) (distinct : (c seq : ℕ) → IsDistinct (script_at plan 
       neither (inl e) = cc
       neither (inr e) = cc
 
-      vacant : (desk : Desk) → FitsDesk plan s.history c x desk → FitsDesk plan s.history c y desk
+module _ (plan : Plan) (distinct : (c seq : ℕ) → IsDistinct (script_at plan c seq)) (s : State) (c : ℕ) (lt : c < length s.clients) (holds : Holds plan s) (visit : IsOneVisit plan.layout (script_now plan c (client_at s c))) where
+  abbrev x_now : ClientState
+  x_now = client_at s c
+
+  abbrev decided_entry : HistoryEntry
+  decided_entry = record {
+    entry = record { stamp = decision_stamp x_now.last x_now.noted; client = c; seq = x_now.seq };
+    pairs = Some (joined plan.layout (script_now plan c x_now) (values_of x_now.noted) []);
+  }
+
+  abbrev decided_client : ClientState
+  decided_client = record x_now { phase = Installing; last = decision_stamp x_now.last x_now.noted; reply = joined plan.layout (script_now plan c x_now) (values_of x_now.noted) [] }
+
+  abbrev all_now : Clients
+  all_now d = get_or (set s.clients c decided_client) d (at_item 0 1 zero_stamp)
+
+  pub decided_holds : IsAsking x_now → next_op plan c x_now ≡ None → has_hot plan (script_now plan c x_now) ≡ false → 0 < length x_now.noted → Holds plan (decided plan s c x_now)
+  unfolding decided
+  decided_holds asks next cold some = record {
+    now = holds.now;
+    up = holds.up;
+    reached = holds.reached;
+    desks = holds.desks ∙ sym (length-set s.clients c decided_client);
+    ties = tied plan all_now s.store (with_entry decided_entry s.history) (desk_at holds.now) (entered holds.now)
+        (decided_facts plan distinct s c lt (length (entered holds.now)) (host_facts plan (client_at s) s.store s.history (desk_at holds.now) (entered holds.now) holds.ties)
+        (λ waits. own_of_all plan (client_at s) (desk_at holds.now) (hot_cells plan) s.history (entered holds.now) c waits holds.ties.unanswered holds.ties.carried_ones (holds.ties.cold.own c)) visit asks next cold some)
+        (subst (λ (l : History). AreCarriedBy plan all_now (desk_at holds.now) 0 (hot_cells plan) l (entered holds.now)) (sym (carried-with_entry decided_entry s.history (risen (greatest x_now.last x_now.noted).sub)))
+        (carried_stays plan (client_at s) all_now (desk_at holds.now) (desk_at holds.now) 0 (hot_cells plan) (carried s.history) (entered holds.now)
+        (λ j e values p. pending_stays plan (client_at s) all_now (desk_at holds.now) (desk_at holds.now) j e values (stay e.entry.client (λ same. not_waiting (subst (λ (i : ℕ). (client_at s i).phase ≡ Waiting) same p.phase))) refl p) holds.ties.carried_ones))
+        (λ d. desk_stays plan s.history (with_entry decided_entry s.history) d (all_now d) (desk_at holds.now d) (λ f. still_there decided_entry f s.history holds.ties.sorted) (elim (same_or_not d c) [
+          | inl e ↦ subst (λ (i : ℕ). FitsDesk plan s.history i (all_now i) (desk_at holds.now i)) (sym e) (subst (λ (z : ClientState). FitsDesk plan s.history c z (desk_at holds.now c)) (sym (moved_client s.clients c decided_client lt)) (vacant (desk_at holds.now c) (holds.ties.under_way c)))
+          | inr n ↦ subst (λ (z : ClientState). FitsDesk plan s.history d z (desk_at holds.now d)) (sym (stay d n)) (holds.ties.under_way d)
+        ]));
+  }
+    where
+      stay : OthersStay c (client_at s) all_now
+      stay = others_stay s.clients c decided_client
+
+      not_waiting : x_now.phase ≢ Waiting
+      not_waiting = elim asks [ inl is ↦ (λ e. let clash : Ready ≡ Waiting = sym is ∙ e in cc) | inr is ↦ (λ e. let clash : Locking ≡ Waiting = sym is ∙ e in cc) ]
+
+      vacant : (desk : Desk) → FitsDesk plan s.history c x_now desk → FitsDesk plan s.history c decided_client desk
       vacant Vacant fits = λ e. let clash : Installing ≡ Waiting = e in cc
       vacant (Posted p) fits = absurd (not_waiting fits.0)
       vacant (Entered k) fits = absurd (not_waiting fits.0)

@@ -23,9 +23,9 @@ use Rattle.core_model.proofs.Fewer.{OthersStay, KeepsLocks, same_or_not}
 use Rattle.core_model.proofs.Moves.{moved_client, others_stay}
 use Rattle.fabric_model.specs.Carried.{is_carried, carried, AreCarriedBy, FitsDesk, pending_entry}
 use Rattle.fabric_model.specs.ColdFacts.{FitsPhase, ColdFacts}
-use Rattle.fabric_model.specs.Holds.{answered_ones, Ties, Holds}
+use Rattle.fabric_model.specs.Holds.{Ties, Holds}
 use Rattle.fabric_model.specs.Intents.{values_of}
-use Rattle.fabric_model.specs.State.{State, client_at}
+use Rattle.fabric_model.specs.State.{State, client_at, answered_ones}
 use Rattle.fabric_model.specs.Step.{taken, with_reply, answered_entry, has_hot}
 use Rattle.fabric_model.proofs.AnswerOne.{sorted-with_reply, cold_now, carried_now}
 use Rattle.fabric_model.proofs.CarriedLaws.{carried_stays}

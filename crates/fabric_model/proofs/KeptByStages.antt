@@ -15,9 +15,9 @@ use Rattle.core_model.proofs.Fewer.{OthersStay, KeepsLocks, same_or_not}
 use Rattle.core_model.proofs.Moves.{moved_client, others_stay}
 use Rattle.fabric_model.specs.Carried.{carried, FitsDesk}
 use Rattle.fabric_model.specs.ColdFacts.{FitsPhase}
-use Rattle.fabric_model.specs.Holds.{answered_ones, Ties, Holds}
+use Rattle.fabric_model.specs.Holds.{Ties, Holds}
 use Rattle.fabric_model.specs.Intents.{packet_now}
-use Rattle.fabric_model.specs.State.{State, client_at}
+use Rattle.fabric_model.specs.State.{State, client_at, answered_ones}
 use Rattle.fabric_model.specs.Step.{posted, switched, has_hot}
 use Rattle.fabric_model.proofs.CarriedLaws.{carried_stays}
 use Rattle.fabric_model.proofs.Fewer.{kept_by_fewer}

@@ -11,6 +11,7 @@ use Rattle.txn_model.proofs.SerialLaws.{item_of_all}
 use Rattle.host_store.specs.Store as stores
 use Rattle.host_store.specs.Store.{Store, seen_at, first_seen}
 use Rattle.history_model.specs.History.{HistoryEntry, History, greater, stamp_cmp}
+use Rattle.placement_model.specs.Placements.{Task}
 use Rattle.switch_model.specs.Switch.{Switch, Answer, Desk, Vacant, Posted, Entered, desk_at, next_number, answer_of}
 use Rattle.warm_split.specs.Joined.{joined}
 use Rattle.catalogue.specs.Plan.{Plan, PlainItem}
@@ -31,17 +32,20 @@ use Rattle.fabric_model.specs.Holds.{Holds}
 use Rattle.fabric_model.specs.Intents.{values_of}
 use Rattle.fabric_model.specs.Known.{IsKnown, HasKnownNumbers}
 use Rattle.fabric_model.specs.Laws.{IsReached, HasEntry, AnswersStand}
+use Rattle.fabric_model.specs.Recovery.{resumed}
 use Rattle.fabric_model.specs.Run.{opening, host_rows}
-use Rattle.fabric_model.specs.State.{State, client_at}
-use Rattle.fabric_model.specs.Step.{granted, refused, released, decided, logged, posted, taken, installed, switched, replied, behind_entry, step}
+use Rattle.fabric_model.specs.State.{State, client_at, is_answered, answered_ones}
+use Rattle.fabric_model.specs.Step.{lost, granted, refused, released, decided, logged, posted, taken, installed, switched, replied, behind_entry, recovered}
 use Rattle.fabric_model.specs.Step as fabric
+use Rattle.fabric_model.proofs.Assembled.{all_filled}
 use Rattle.fabric_model.proofs.CarriedLaws.{with_reply-split}
-use Rattle.fabric_model.proofs.Legal.{holds}
-use Rattle.fabric_model.proofs.MoveKinds.{Move, Grants, Refuses, Releases, Decides, Logs, Posts, Takes, Installs, Moved, ByClient, AtPort, AtStage, move_of}
+use Rattle.fabric_model.proofs.Either.{up_of}
+use Rattle.fabric_model.proofs.Legal.{holds_now}
+use Rattle.fabric_model.proofs.MoveKinds.{Move, Loses, Grants, Refuses, Releases, Decides, Logs, Posts, Takes, Installs, Moved, ByClient, AtPort, AtStage, Recovers, move_of}
 use Rattle.fabric_model.proofs.MovesLeft.{same_switch}
 use Rattle.fabric_model.proofs.Numbers.{front}
 use Rattle.fabric_model.proofs.PerClient.{client_now, client_then}
-use Rattle.fabric_model.proofs.Present.{reply_to, stamp_of, clients_at_port, clients_at_stage}
+use Rattle.fabric_model.proofs.Present.{reply_to, stamp_of, clients_at_port, clients_at_stage, client_recovered}
 use Rattle.fabric_model.proofs.Runs.{of_reached}
 use Rattle.fabric_model.proofs.Stand.{answers_stand}
 use Rattle.fabric_model.proofs.TakenAnswer.{taken_answer}
@@ -129,9 +133,18 @@ split_hosts : (P : HistoryEntry → Type 0) (before : History) (e f : HistoryEnt
 split_hosts P [] e f behind all new = (new, all.1)
 split_hosts P (g ∷ before) e f behind all new = (all.0, split_hosts P before e f behind all.1 new)
 
+-- the answered ones
+answered_hosts : (new h : History) → AllByRecursion (IsHosts new) h → AllByRecursion (IsHosts new) (answered_ones h)
+answered_hosts new [] all = tt
+answered_hosts new (e ∷ h) all = by (is_answered e) (answered_hosts new h all.1)
+  where
+    by : (b : Bool) → AllByRecursion (IsHosts new) (answered_ones h) → AllByRecursion (IsHosts new) (if b then e ∷ answered_ones h else answered_ones h)
+    by true rest = (all.0, rest)
+    by false rest = rest
+
 -- ---- moves
 
-module _ (plan : Plan) (s : State) (h : Holds plan s) (c : ℕ) (lt : c < length s.clients) (known : HasKnownNumbers s) where
+module _ (plan : Plan) (s : State) (up_holds : (now : Switch) → s.switch ≡ Some now → Holds plan s) (c : ℕ) (lt : c < length s.clients) (known : HasKnownNumbers s) where
   abbrev x : ClientState
   x = client_at s c
 
@@ -160,6 +173,7 @@ module _ (plan : Plan) (s : State) (h : Holds plan s) (c : ℕ) (lt : c < length
   takes : (after : State) (now next : Switch) (answer : Answer) → s.switch ≡ Some now → answer_of now c ≡ Some answer → after ≡ taken plan s c x answer next → AnswersStand s.history after.history → HasKnownNumbers after
   unfolding taken
   takes after now next answer up has is stand =
+      let h = up_holds now up in
       let t = taken_answer plan s h c answer (subst (λ (n : Switch). answer_of n c ≡ Some answer) (same_switch up h.up) has) in
       let reply = reply_to plan c x answer in
       let e : HistoryEntry = record (pending_entry c x answer.number) { pairs = Some reply } in
@@ -181,7 +195,10 @@ module _ (plan : Plan) (s : State) (h : Holds plan s) (c : ℕ) (lt : c < length
       clash i = cc
 
   known_moved : (after : State) → Move plan s c after → AnswersStand s.history after.history → HasKnownNumbers after
-  unfolding granted refused released decided logged posted installed
+  unfolding lost granted refused released decided logged posted installed
+  known_moved after (Loses now phase item up is) stand =
+      all_known after (next_item plan c x) (ap (λ (z : State). z.clients) is) stand (record { last = known_stays s.history after.history x.last.number stand (known.last c); noted = tt }) (store_stays after stand (ap (λ (z : State). z.store) is))
+      (subst (AllByRecursion (IsHosts after.history)) (sym (ap (λ (z : State). z.history) is)) (answered_hosts after.history s.history (hosts_stay s.history after.history s.history stand known.hosts)))
   known_moved after (Grants op asks next free is) stand =
       let y : ClientState = record x { phase = Locking; noted = x.noted ++ seen_at s.store op.tuple ∷ [] } in
       quiet after y (ap (λ (z : State). z.clients) is) stand (ap (λ (z : State). z.store) is) (ap (λ (z : State). z.history) is)
@@ -241,7 +258,34 @@ known_still s after clients store stand known hosts = record {
     client : (d : ℕ) → KnownClient after.history (client_at after d)
     client d = subst (λ (l : List ClientState). KnownClient after.history (get_or l d (at_item 0 1 zero_stamp))) (sym clients) (client_stays s.history after.history (client_at s d) stand (record { last = known.last d; noted = known.noted d }))
 
-known_step : (plan : Plan) (s after : State) (actor : Actor) → Holds plan s → HasKnownNumbers s → AnswersStand s.history after.history → Moved plan s after actor → HasKnownNumbers after
+-- ---- recovery
+
+store_recovered : (plan : Plan) (s : State) (order : List Task) → (recovered plan s order).store ≡ s.store
+unfolding recovered
+store_recovered plan s order = refl
+
+hosts_recovered : (plan : Plan) (s : State) (new : History) (order : List Task) → AllByRecursion (IsHosts new) s.history → AllByRecursion (IsHosts new) (recovered plan s order).history
+unfolding recovered
+hosts_recovered plan s new order all = all_filled (IsHosts new) 1 order s.history all (λ k t there none host. absurd (clash host))
+  where
+    clash : true ≡ false → ⊥
+    clash i = cc
+
+known_again : (plan : Plan) (s after : State) (order : List Task) → after ≡ recovered plan s order → HasKnownNumbers s → AnswersStand s.history after.history → HasKnownNumbers after
+known_again plan s after order is known stand = record {
+  last = λ d. (client d).last;
+  noted = λ d. (client d).noted;
+  store = λ t. subst (λ (m : Store). IsKnown after.history (seen_at m t).stamp.number) (sym (ap (λ (z : State). z.store) is ∙ store_recovered plan s order)) (known_stays s.history after.history (seen_at s.store t).stamp.number stand (known.store t));
+  hosts = subst (λ (z : State). AllByRecursion (IsHosts after.history) z.history) (sym is) (hosts_recovered plan s after.history order (hosts_stay s.history after.history s.history stand known.hosts));
+}
+  where
+    again : (h : History) (x : ClientState) → KnownClient h x → KnownClient h (resumed x)
+    again h x k = record { last = k.last; noted = k.noted }
+
+    client : (d : ℕ) → KnownClient after.history (client_at after d)
+    client d = subst (KnownClient after.history) (sym (client_recovered plan s after order is d)) (again after.history (client_at s d) (client_stays s.history after.history (client_at s d) stand (record { last = known.last d; noted = known.noted d })))
+
+known_step : (plan : Plan) (s after : State) (actor : Actor) → ((now : Switch) → s.switch ≡ Some now → Holds plan s) → HasKnownNumbers s → AnswersStand s.history after.history → Moved plan s after actor → HasKnownNumbers after
 known_step plan s after actor h known stand (ByClient c within move) = known_moved plan s h c within known after move stand
 known_step plan s after actor h known stand (AtPort c now next up to is) =
     known_still s after (ap (λ (z : State). z.clients) is ∙ clients_at_port s c (desk_at now c) (next_number now) next) (ap (λ (z : State). z.store) is ∙ store_at_port s c (desk_at now c) (next_number now) next) stand known
@@ -249,6 +293,7 @@ known_step plan s after actor h known stand (AtPort c now next up to is) =
 known_step plan s after actor h known stand (AtStage k now next up to is) =
     known_still s after (ap (λ (z : State). z.clients) is ∙ clients_at_stage s next) (ap (λ (z : State). z.store) is ∙ store_at_stage s next) stand known
     (subst (λ (z : State). AllByRecursion (IsHosts after.history) z.history) (sym is) (hosts_at_stage s after.history next (hosts_stay s.history after.history s.history stand known.hosts)))
+known_step plan s after actor h known stand (Recovers order down found is) = known_again plan s after order is known stand
 
 -- ---- the opening
 
@@ -272,4 +317,4 @@ known_at_opening plan = record {
 
 pub known_numbers : (plan : Plan) (s : State) → IsReached plan s → HasKnownNumbers s
 known_numbers plan s reached =
-    of_reached plan HasKnownNumbers (known_at_opening plan) (λ z next actor r known is. let h = holds plan z r in known_step plan z next actor h known (answers_stand plan z next actor h is) (move_of plan z actor next is)) s reached
+    of_reached plan HasKnownNumbers (known_at_opening plan) (λ z next actor r known is. let h = up_of plan z (holds_now plan z r) in known_step plan z next actor h known (answers_stand plan z next actor h is) (move_of plan z actor next is)) s reached

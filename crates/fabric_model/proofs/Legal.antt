@@ -26,20 +26,35 @@ use Rattle.core_model.specs.Facts.{Clients, script_of_entry, answered}
 use Rattle.core_model.specs.State.{ClientState, at_item, zero_stamp, script_now}
 use Rattle.core_model.proofs.Legal.{all_distinct}
 use Rattle.fabric_model.specs.Carried.{is_carried, carried, AreCarriedBy, FitsDesk}
-use Rattle.fabric_model.specs.Holds.{answered_ones, Holds}
+use Rattle.fabric_model.specs.Holds.{Holds, HoldsNow}
+use Rattle.fabric_model.specs.Recorded.{HasRecords}
 use Rattle.fabric_model.specs.Laws.{IsReached, HasLegalHistory, HasSerialValues, AllFinished, tuple_now, value_in, register_in}
-use Rattle.fabric_model.specs.State.{State, client_at}
+use Rattle.fabric_model.specs.State.{State, client_at, answered_ones}
 use Rattle.fabric_model.proofs.Completed.{Completed, Fills, IsOpenWell, AreOpenWell, complete}
 use Rattle.fabric_model.proofs.Fitting.{packets_fit}
 use Rattle.fabric_model.proofs.EntriesKept.{unanswered_wait}
-use Rattle.fabric_model.proofs.Kept.{kept_by_step, visit_of, some_hot}
+use Rattle.fabric_model.proofs.AnsweredRecords.{records_kept}
+use Rattle.fabric_model.proofs.Either.{FactsOf, facts_of, up_of}
+use Rattle.fabric_model.proofs.Keeping.{Stands, stands_step, stands_at_opening}
+use Rattle.fabric_model.proofs.Kept.{visit_of, some_hot}
 use Rattle.fabric_model.proofs.Layouts.{places_of_their_own, first_registers}
 use Rattle.fabric_model.proofs.LegalHistory.{all_answered_ones, same_scripts, legal, whole_run, hot_last}
-use Rattle.fabric_model.proofs.Opening.{holds_at_opening}
 use Rattle.fabric_model.proofs.Runs.{of_reached}
 
-pub holds : (plan : Plan) (s : State) → IsReached plan s → Holds plan s
-holds plan s reached = of_reached plan (Holds plan) (holds_at_opening plan reached.sound) (λ z next actor r h is. kept_by_step plan r.sound (packets_fit plan r.sound) z next actor h is) s reached
+pub stands : (plan : Plan) (s : State) → IsReached plan s → Stands plan s
+stands plan s reached = of_reached plan (Stands plan) (stands_at_opening plan reached.sound) (λ z next actor r h is. stands_step plan r.sound (packets_fit plan r.sound) z next actor r h is) s reached
+
+pub holds_now : (plan : Plan) (s : State) → IsReached plan s → HoldsNow plan s
+holds_now plan s reached = (stands plan s reached).now
+
+pub holds_up : (plan : Plan) (s : State) → IsReached plan s → (now : Switch) → s.switch ≡ Some now → Holds plan s
+holds_up plan s reached now up = up_of plan s (holds_now plan s reached) now up
+
+pub facts_now : (plan : Plan) (s : State) → IsReached plan s → FactsOf plan s
+facts_now plan s reached = facts_of plan s (holds_now plan s reached)
+
+pub records_answer : (plan : Plan) (s : State) → IsReached plan s → (c : ℕ) → HasRecords plan s c
+records_answer plan s reached c = records_kept plan s (stands plan s reached).kept c
 
 -- a pending entry's client waits at its item
 pending_at_item : (plan : Plan) (at : Clients) (desks : ℕ → Desk) (k : ℕ) (m : Places) (es : History) (ps : List PlainPacket) → AreCarriedBy plan at desks k m es ps
@@ -68,7 +83,7 @@ open_well plan s sound h (e ∷ l) hosts all = by (is_carried e) refl all (open_
     by false is a rest = (λ none. let clash : true ≡ false = sym (hosts.0 none) ∙ is in cc, rest a)
 
 -- where all have finished, so has each
-each_finished : (clients : List ClientState) (d : ℕ) → AllByRecursion (λ client. client.phase ≡ Finished) clients → (get_or clients d (at_item 0 1 zero_stamp)).phase ≡ Finished
+pub each_finished : (clients : List ClientState) (d : ℕ) → AllByRecursion (λ client. client.phase ≡ Finished) clients → (get_or clients d (at_item 0 1 zero_stamp)).phase ≡ Finished
 each_finished [] d all = refl
 each_finished (x ∷ clients) zero all = all.0
 each_finished (x ∷ clients) (suc d) all = each_finished clients d all.1
@@ -119,7 +134,7 @@ module _ (plan : Plan) (s : State) (sound : IsSound plan) (h : Holds plan s) whe
   none_installs : AllFinished s → (d : ℕ) → (client_at s d).phase ≢ Installing
   none_installs finished d e = let clash : Finished ≡ Installing = sym (each_finished s.clients d finished) ∙ e in cc
 
-  all_answered : AllFinished s → AllAnswered s.history
+  pub all_answered : AllFinished s → AllAnswered s.history
   all_answered finished = answered_all (client_at s) (none_waits finished) s.history (unanswered_wait plan (client_at s) (desk_at h.now) (hot_cells plan) s.history (entered h.now) h.ties.unanswered h.ties.carried_ones)
 
   quiet : AllFinished s → IsQuiet h.now
@@ -144,3 +159,13 @@ module _ (plan : Plan) (s : State) (sound : IsSound plan) (h : Holds plan s) whe
           ap (value_in s t) is
           ∙ sym (h.ties.cold.unchanged t (ap is_some is) (λ d k op st i on. absurd (none_installs finished d i)))
           ∙ ap (λ (l : History). last_value t (value_at plan.tuples t) (all_steps (answered plan l))) (whole_same finished) ∙ serial t
+
+when_up : {Q : Type 0} (o : Option Switch) → IsSome o → ((now : Switch) → o ≡ Some now → Q) → Q
+when_up None up go = let clash = up in cc
+when_up (Some now) up go = go now refl
+
+pub legal_when_up : (plan : Plan) (s : State) → IsReached plan s → IsSome s.switch → HasLegalHistory plan s
+legal_when_up plan s reached up = when_up s.switch up (λ now is. legal_now plan s reached.sound (holds_up plan s reached now is))
+
+pub values_when_up : (plan : Plan) (s : State) → IsReached plan s → IsSome s.switch → AllFinished s → HasSerialValues plan s
+values_when_up plan s reached up finished = when_up s.switch up (λ now is. values_now plan s reached.sound (holds_up plan s reached now is) finished)

@@ -24,7 +24,7 @@ use Rattle.core_model.specs.Facts.{script_of_entry, answered}
 use Rattle.core_model.specs.State.{Store}
 use Rattle.fabric_model.specs.Carried.{is_carried}
 use Rattle.fabric_model.specs.ColdFacts.{ColdFacts}
-use Rattle.fabric_model.specs.Holds.{answered_ones}
+use Rattle.fabric_model.specs.State.{answered_ones}
 use Rattle.fabric_model.proofs.Completed.{Completed, Fills}
 use Rattle.fabric_model.proofs.HotChains.{Linked, tuple_pairs, place_pairs, chain-Linked, Linked-chain, last_of, last_value-last_of, last_number-last_of}
 use Rattle.fabric_model.proofs.HotHistory.{OnHostsAlone, same_on}

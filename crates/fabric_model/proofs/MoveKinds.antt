@@ -1,12 +1,13 @@
 -- What the move of an actor is.
-use Rattle.std.proofs.Common.{◌≡◌, ℕ, ◌<◌, nat_lt, Bool, true, false, length, slice_get, Option, Some, None, inl, inr, refl, sym, ◌∙◌, arith, if◌then◌else◌, option_map}
+use Rattle.std.proofs.Common.{◌≡◌, ℕ, ◌<◌, nat_lt, Bool, true, false, List, length, slice_get, Option, Some, None, inl, inr, refl, sym, ◌∙◌, arith, if◌then◌else◌, option_map}
 use Rattle.std.specs.Option.{option_and_then}
 use Rattle.std.proofs.lemmas.Bool.Decides.{nat_tests}
 use Rattle.txn_model.specs.declared.op.Op.{Op}
 use Rattle.history_model.specs.Chain.{Step}
+use Rattle.placement_model.specs.Placements.{Task}
 use Rattle.switch_model.specs.Switch.{Switch, Answer, desk_at, next_number, answer_of}
 use Rattle.switch_model.specs.Event as switch
-use Rattle.catalogue.specs.Plan.{Plan}
+use Rattle.catalogue.specs.Plan.{Plan, PlainItem, Run, Lose, item_of}
 use Rattle.catalogue.specs.declared.actor.Actor.{Actor}
 use Rattle.catalogue.specs.declared.actor.Actor.TheVariants.{Client, Port, Stage, Recover}
 use Rattle.core_model.specs.declared.phase.Phase.{Phase}
@@ -16,10 +17,11 @@ use Rattle.core_model.specs.Facts.{steps_now}
 use Rattle.core_model.specs.State.{ClientState, script_now}
 use Rattle.fabric_model.specs.Intents.{packet_now}
 use Rattle.fabric_model.specs.State.{State, client_at}
-use Rattle.fabric_model.specs.Step.{granted, refused, holder, asked, released, decided, logged, posted, taken, installed, switched, has_hot, logs_or_decides, asks_or_goes_on, next_op, takes, client_step, behind_entry, enters, step}
+use Rattle.fabric_model.specs.Step.{lost, granted, refused, holder, asked, released, decided, logged, posted, taken, installed, switched, has_hot, logs_or_decides, asks_or_goes_on, next_op, takes, begins, client_step, behind_entry, enters, recovered, order_now, recovers, step}
 
 -- what the move of this client is
 pub data Move (plan : Plan) (s : State) (c : ℕ) (after : State) : Type 0 where
+  Loses : (now : Switch) → (client_at s c).phase ≡ Ready → item_of plan c (client_at s c).seq ≡ Some Lose → s.switch ≡ Some now → after ≡ lost plan s c (client_at s c) → Move plan s c after
   Grants : (op : Op) → IsAsking (client_at s c) → next_op plan c (client_at s c) ≡ Some op → holder plan s c op ≡ None → after ≡ granted s c (client_at s c) op → Move plan s c after
   Refuses : (op : Op) (by : ℕ) → IsAsking (client_at s c) → next_op plan c (client_at s c) ≡ Some op → holder plan s c op ≡ Some by → after ≡ refused plan s c (client_at s c) op by → Move plan s c after
   Releases : (client_at s c).phase ≡ Aborting → after ≡ released plan s c (client_at s c) → Move plan s c after
@@ -82,8 +84,18 @@ taking plan s c after is (Some now) at e = by (answer_of now c) refl e
     by (Some answer) has i = by_next answer has (switch.take_answer now c) refl i
     by None has i = cc
 
+losing : (plan : Plan) (s : State) (c : ℕ) (after : State) → (client_at s c).phase ≡ Ready → item_of plan c (client_at s c).seq ≡ Some Lose → (o : Option Switch) → s.switch ≡ o
+    → option_map (λ now. lost plan s c (client_at s c)) o ≡ Some after → Move plan s c after
+losing plan s c after is item None at e = cc
+losing plan s c after is item (Some now) at e = Loses now is item at (some_same e)
+
+beginning : (plan : Plan) (s : State) (c : ℕ) (after : State) → (client_at s c).phase ≡ Ready → (o : Option PlainItem) → item_of plan c (client_at s c).seq ≡ o → begins plan s c (client_at s c) o ≡ Some after → Move plan s c after
+beginning plan s c after is None item e = cc
+beginning plan s c after is (Some (Run ops)) item e = asking plan s c after (next_op plan c (client_at s c)) refl (inl is) e
+beginning plan s c after is (Some Lose) item e = losing plan s c after is item s.switch refl e
+
 move_in : (plan : Plan) (s : State) (c : ℕ) (after : State) (q : Phase) → (client_at s c).phase ≡ q → client_step plan s c (client_at s c) q ≡ Some after → Move plan s c after
-move_in plan s c after Ready is e = asking plan s c after (next_op plan c (client_at s c)) refl (inl is) e
+move_in plan s c after Ready is e = beginning plan s c after is (item_of plan c (client_at s c).seq) refl e
 move_in plan s c after Locking is e = asking plan s c after (next_op plan c (client_at s c)) refl (inr is) e
 move_in plan s c after Aborting is e = Releases is (some_same e)
 move_in plan s c after Installing is e = by (slice_get (steps_now plan c (client_at s c)) (client_at s c).installed) refl e
@@ -100,6 +112,7 @@ pub data Moved (plan : Plan) (s : State) (after : State) : Actor → Type 0 wher
   ByClient : (c : ℕ) → c < length s.clients → Move plan s c after → Moved plan s after (Client c)
   AtPort : (c : ℕ) (now next : Switch) → s.switch ≡ Some now → switch.enter plan.shape now c ≡ Some next → after ≡ behind_entry s c (desk_at now c) (next_number now) next → Moved plan s after (Port c)
   AtStage : (x : ℕ) (now next : Switch) → s.switch ≡ Some now → switch.advance plan.shape now x ≡ Some next → after ≡ switched s next → Moved plan s after (Stage x)
+  Recovers : (order : List Task) → s.switch ≡ None → order_now plan s ≡ Some order → after ≡ recovered plan s order → Moved plan s after Recover
 
 pub move_of : (plan : Plan) (s : State) (actor : Actor) (after : State) → step plan s actor ≡ Some after → Moved plan s after actor
 unfolding step
@@ -126,4 +139,12 @@ move_of plan s (Stage x) after e = by s.switch refl e
     by : (o : Option Switch) → s.switch ≡ o → option_map (switched s) (option_and_then (λ now. switch.advance plan.shape now x) o) ≡ Some after → Moved plan s after (Stage x)
     by (Some now) at i = advancing now at (switch.advance plan.shape now x) refl i
     by None at i = cc
-move_of plan s Recover after e = cc
+move_of plan s Recover after e = by s.switch refl e
+  where
+    ordered : s.switch ≡ None → (o : Option (List Task)) → order_now plan s ≡ o → option_map (recovered plan s) o ≡ Some after → Moved plan s after Recover
+    ordered down (Some order) is i = Recovers order down is (some_same i)
+    ordered down None is i = cc
+
+    by : (o : Option Switch) → s.switch ≡ o → recovers plan s o ≡ Some after → Moved plan s after Recover
+    by None down i = ordered down (order_now plan s) refl i
+    by (Some now) up i = cc

@@ -25,23 +25,27 @@ use Rattle.core_model.proofs.Fewer.{same_or_not, each_entry}
 use Rattle.core_model.proofs.Stamps.{Below-from_AtMost, above_all, below_of}
 use Rattle.core_model.proofs.StepsOf.{all_behind}
 use Rattle.fabric_model.specs.Carried.{pending_entry}
-use Rattle.fabric_model.specs.Holds.{is_answered, answered_ones, Holds}
+use Rattle.fabric_model.specs.Holds.{HostFacts, Holds, HoldsNow}
 use Rattle.fabric_model.specs.Intents.{values_of}
 use Rattle.fabric_model.specs.Known.{HasLastStamps}
 use Rattle.fabric_model.specs.Laws.{IsReached, HasEntry}
+use Rattle.fabric_model.specs.Recovery.{waits_again, resumed}
 use Rattle.fabric_model.specs.Run.{opening}
-use Rattle.fabric_model.specs.State.{State, client_at}
-use Rattle.fabric_model.specs.Step.{granted, refused, released, decided, logged, posted, taken, installed, switched, replied, behind_entry}
+use Rattle.fabric_model.specs.State.{State, client_at, is_answered, answered_ones}
+use Rattle.fabric_model.specs.Step.{lost, granted, refused, released, decided, logged, posted, taken, installed, switched, replied, behind_entry}
 use Rattle.fabric_model.specs.Step as fabric
 use Rattle.fabric_model.proofs.CarriedLaws.{answered_ones-with_reply}
 use Rattle.fabric_model.proofs.EntriesKept.{answered_ones-with_entry, answered_ones-pending}
-use Rattle.fabric_model.proofs.Legal.{holds}
-use Rattle.fabric_model.proofs.MoveKinds.{Move, Grants, Refuses, Releases, Decides, Logs, Posts, Takes, Installs, Moved, ByClient, AtPort, AtStage, move_of}
+use Rattle.fabric_model.proofs.Either.{facts_of, up_of}
+use Rattle.fabric_model.proofs.Legal.{holds_now}
+use Rattle.fabric_model.proofs.MoveKinds.{Move, Loses, Grants, Refuses, Releases, Decides, Logs, Posts, Takes, Installs, Moved, ByClient, AtPort, AtStage, Recovers, move_of}
 use Rattle.fabric_model.proofs.MovesLeft.{same_switch}
 use Rattle.fabric_model.proofs.Numbers.{front}
+use Rattle.fabric_model.proofs.OwnEntries.{ones_alone, ones_recovered}
 use Rattle.fabric_model.proofs.Stand.{still_there}
 use Rattle.fabric_model.proofs.PerClient.{client_now, client_then, on_aborting}
-use Rattle.fabric_model.proofs.Present.{reply_to, stamp_of, clients_at_port, clients_at_stage}
+use Rattle.fabric_model.proofs.Present.{reply_to, stamp_of, clients_at_port, clients_at_stage, client_recovered}
+use Rattle.fabric_model.proofs.Resumed.{installs_before}
 use Rattle.fabric_model.proofs.Runs.{of_reached}
 use Rattle.fabric_model.proofs.TakenAnswer.{taken_answer}
 
@@ -218,7 +222,7 @@ other_stamps d x e h n stamps = record {
 
 -- ---- moves
 
-module _ (plan : Plan) (s : State) (h : Holds plan s) (c : ℕ) (lt : c < length s.clients) (stamps : AllStamps s) where
+module _ (plan : Plan) (s : State) (most : ℕ) (f : HostFacts plan most (client_at s) s.store s.history) (up_holds : (now : Switch) → s.switch ≡ Some now → Holds plan s) (c : ℕ) (lt : c < length s.clients) (stamps : AllStamps s) where
   abbrev x : ClientState
   x = client_at s c
 
@@ -247,17 +251,18 @@ module _ (plan : Plan) (s : State) (h : Holds plan s) (c : ℕ) (lt : c < length
       let y : ClientState = record x { phase = Installing; last = stamp; reply = reply } in
       let e : HistoryEntry = record { entry = record { stamp = stamp; client = c; seq = x.seq }; pairs = Some reply } in
       let above = above_all x.last x.noted in
-      new_entry after y e (ap (λ (z : State). z.clients) is) (ap (λ (z : State). answered_ones z.history) is ∙ answered_ones-with_entry e s.history refl h.ties.sorted) refl
-      (entry_stamps c x y e ones (asking_quiet x asks) h.ties.cold.sorted refl above.0 (h.ties.cold.own c) refl (λ q low. low) (inr (record { seq = refl; phase = refl; stamp = refl; reply = refl })) (λ i. above.1) (λ i late. omega (arith, late)) (stamps c))
+      new_entry after y e (ap (λ (z : State). z.clients) is) (ap (λ (z : State). answered_ones z.history) is ∙ answered_ones-with_entry e s.history refl f.sorted) refl
+      (entry_stamps c x y e ones (asking_quiet x asks) f.cold.sorted refl above.0 (f.cold.own c) refl (λ q low. low) (inr (record { seq = refl; phase = refl; stamp = refl; reply = refl })) (λ i. above.1) (λ i late. omega (arith, late)) (stamps c))
 
   takes : (after : State) (now next : Switch) (answer : Answer) → x.phase ≡ Waiting → s.switch ≡ Some now → answer_of now c ≡ Some answer → after ≡ taken plan s c x answer next → AllStamps after
   unfolding taken
   takes after now next answer phase up has is =
+      let h = up_holds now up in
       let t = taken_answer plan s h c answer (subst (λ (n : Switch). answer_of n c ≡ Some answer) (same_switch up h.up) has) in
       let reply = reply_to plan c x answer in
       let e : HistoryEntry = record (pending_entry c x answer.number) { pairs = Some reply } in
       let whole : answered_ones after.history ≡ with_entry e ones =
-      ap (λ (z : State). answered_ones z.history) is ∙ answered_ones-with_reply answer.number reply s.history t.split h.ties.sorted ∙ ap (λ (f : HistoryEntry). with_entry (record f { pairs = Some reply }) ones) t.entry in
+      ap (λ (z : State). answered_ones z.history) is ∙ answered_ones-with_reply answer.number reply s.history t.split f.sorted ∙ ap (λ (g : HistoryEntry). with_entry (record g { pairs = Some reply }) ones) t.entry in
       let above : Below x.last (stamp_of answer) = below_of x.last (stamp_of answer) (inl t.last) in
       let quiet : x.phase ≢ Installing = (λ i. clash (sym phase ∙ i)) in
       new_entry after (replied plan c x (stamp_of answer) reply) e (ap (λ (z : State). z.clients) is) whole refl (by e reply above quiet t.above (length x.noted == 0))
@@ -273,13 +278,19 @@ module _ (plan : Plan) (s : State) (h : Holds plan s) (c : ℕ) (lt : c < length
           → StampsOf c (if b then next_item plan c (record x { phase = Installing; last = stamp_of answer; reply = reply }) else record x { phase = Installing; last = stamp_of answer; reply = reply }) (with_entry (record (pending_entry c x answer.number) { pairs = Some reply }) ones)
       by e reply above quiet noted true =
           let w : ClientState = record x { phase = Installing; last = stamp_of answer; reply = reply } in
-          entry_stamps c x (next_item plan c w) (record (pending_entry c x answer.number) { pairs = Some reply }) ones quiet h.ties.cold.sorted refl above (h.ties.cold.own c) refl (λ q low. omega (arith, low)) (inl (omega arith)) (λ i. absurd ((begun (length (items_of plan c)) (x.seq + 1) w).0 i)) (λ i late. (begun (length (items_of plan c)) (x.seq + 1) w).0 i) (stamps c)
+          entry_stamps c x (next_item plan c w) (record (pending_entry c x answer.number) { pairs = Some reply }) ones quiet f.cold.sorted refl above (f.cold.own c) refl (λ q low. omega (arith, low)) (inl (omega arith)) (λ i. absurd ((begun (length (items_of plan c)) (x.seq + 1) w).0 i)) (λ i late. (begun (length (items_of plan c)) (x.seq + 1) w).0 i) (stamps c)
       by e reply above quiet noted false =
-          entry_stamps c x (record x { phase = Installing; last = stamp_of answer; reply = reply }) (record (pending_entry c x answer.number) { pairs = Some reply }) ones quiet h.ties.cold.sorted refl above (h.ties.cold.own c) refl (λ q low. low)
+          entry_stamps c x (record x { phase = Installing; last = stamp_of answer; reply = reply }) (record (pending_entry c x answer.number) { pairs = Some reply }) ones quiet f.cold.sorted refl above (f.cold.own c) refl (λ q low. low)
           (inr (record { seq = refl; phase = refl; stamp = refl; reply = refl })) (λ i. all_below answer.number x.noted noted) (λ i late. omega (arith, late)) (stamps c)
 
   stamps_moved : (after : State) → Move plan s c after → AllStamps after
-  unfolding granted refused released logged posted installed
+  unfolding lost granted refused released logged posted installed
+  stamps_moved after (Loses now phase item up is) =
+      let start = begun (length (items_of plan c)) (x.seq + 1) x in
+      let whole : answered_ones after.history ≡ ones = ap (λ (z : State). answered_ones z.history) is ∙ ones_alone s.history in
+      all_stamps after (next_item plan c x) (ap (λ (z : State). z.clients) is)
+      (subst (StampsOf c (next_item plan c x)) (sym whole) (quiet_stamps c x (next_item plan c x) ones (λ i. let clash : Ready ≡ Installing = sym phase ∙ i in cc) start.0 refl (omega arith) (stamps c)))
+      (λ d n. subst (StampsOf d (client_at s d)) (sym whole) (stamps d))
   stamps_moved after (Grants op asks next free is) =
       let y : ClientState = record x { phase = Locking; noted = x.noted ++ seen_at s.store op.tuple ∷ [] } in
       same_history after y (ap (λ (z : State). z.clients) is) (ap (λ (z : State). z.history) is) (quiet_stamps c x y ones (asking_quiet x asks) (λ i. cc) refl (omega arith) (stamps c))
@@ -316,12 +327,34 @@ stamps_still : (s after : State) → after.clients ≡ s.clients → answered_on
 stamps_still s after clients ones stamps d =
     subst (λ (l : List ClientState). StampsOf d (get_or l d (at_item 0 1 zero_stamp)) (answered_ones after.history)) (sym clients) (subst (StampsOf d (client_at s d)) (sym ones) (stamps d))
 
-stamps_step : (plan : Plan) (s after : State) (actor : Actor) → Holds plan s → AllStamps s → Moved plan s after actor → AllStamps after
-stamps_step plan s after actor h stamps (ByClient c within move) = stamps_moved plan s h c within stamps after move
+-- a client that waits again had no answer
+resumed_stamps : (c : ℕ) (x : ClientState) (h : History) → StampsOf c x h → StampsOf c (resumed x) h
+resumed_stamps c x h stamps = record {
+  last = stamps.last;
+  past = each_entry h (λ e p own. on_past e (p own)) stamps.past;
+  above = λ i. stamps.above (installs_before x.phase i);
+  there = λ i. let p = stamps.there (installs_before x.phase i) in record { entry = p.entry; there = p.there; client = p.client; present = again p.entry p.present };
+}
+  where
+    installs_again : x.phase ≡ Installing → waits_again x.phase ≡ Installing
+    installs_again is = ap waits_again is
+
+    again : (e : HistoryEntry) → IsPresentOne x e → IsPresentOne (resumed x) e
+    again e p = record { seq = p.seq; phase = installs_again p.phase; stamp = p.stamp; reply = p.reply }
+
+    on_past : (e : HistoryEntry) → IsOwnPast x e → IsOwnPast (resumed x) e
+    on_past e (inl lt) = inl lt
+    on_past e (inr p) = inr (again e p)
+
+stamps_step : (plan : Plan) (s after : State) (actor : Actor) → HoldsNow plan s → AllStamps s → Moved plan s after actor → AllStamps after
+stamps_step plan s after actor h stamps (ByClient c within move) = let f = facts_of plan s h in stamps_moved plan s f.most f.facts (up_of plan s h) c within stamps after move
 stamps_step plan s after actor h stamps (AtPort c now next up to is) =
     stamps_still s after (ap (λ (z : State). z.clients) is ∙ clients_at_port s c (desk_at now c) (next_number now) next) (ap (λ (z : State). answered_ones z.history) is ∙ ones_at_port s c (desk_at now c) (next_number now) next) stamps
 stamps_step plan s after actor h stamps (AtStage k now next up to is) =
     stamps_still s after (ap (λ (z : State). z.clients) is ∙ clients_at_stage s next) (ap (λ (z : State). answered_ones z.history) is ∙ ones_at_stage s next) stamps
+stamps_step plan s after actor h stamps (Recovers order down found is) =
+    λ d. subst (λ (x : ClientState). StampsOf d x (answered_ones after.history)) (sym (client_recovered plan s after order is d))
+    (subst (StampsOf d (resumed (client_at s d))) (sym (ap (λ (z : State). answered_ones z.history) is ∙ ones_recovered plan s order)) (resumed_stamps d (client_at s d) (answered_ones s.history) (stamps d)))
 
 first_stamps : (lists : List (List PlainItem)) (c d : ℕ) → StampsOf d (get_or (first_clients lists) c (at_item 0 1 zero_stamp)) []
 first_stamps [] c d = record { last = refl; past = tt; above = λ i. absurd ((begun 0 1 (at_item 0 1 zero_stamp)).0 i); there = λ i. absurd ((begun 0 1 (at_item 0 1 zero_stamp)).0 i) }
@@ -333,7 +366,7 @@ unfolding opening
 stamps_at_opening plan c = first_stamps plan.clients c c
 
 pub stamps_of_run : (plan : Plan) (s : State) → IsReached plan s → AllStamps s
-stamps_of_run plan s reached = of_reached plan AllStamps (stamps_at_opening plan) (λ z next actor r stamps is. stamps_step plan z next actor (holds plan z r) stamps (move_of plan z actor next is)) s reached
+stamps_of_run plan s reached = of_reached plan AllStamps (stamps_at_opening plan) (λ z next actor r stamps is. stamps_step plan z next actor (holds_now plan z r) stamps (move_of plan z actor next is)) s reached
 
 -- ---- the same of the whole history
 

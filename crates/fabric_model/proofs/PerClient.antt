@@ -4,6 +4,7 @@ use Rattle.std.proofs.lemmas.List.{length-map, get_or-set_same, get_or-set_other
 use Rattle.txn_model.specs.declared.stamp.Seen.{Seen}
 use Rattle.catalogue.specs.Plan.{Plan}
 use Rattle.catalogue.specs.declared.actor.Actor.{Actor}
+use Rattle.placement_model.specs.Placements.{Task}
 use Rattle.switch_model.specs.Switch.{Switch, Desk, Vacant, Posted, Entered, desk_at, next_number}
 use Rattle.core_model.specs.declared.phase.Phase.TheVariants.{Ready}
 use Rattle.core_model.specs.State.{ClientState, at_item, zero_stamp}
@@ -11,11 +12,12 @@ use Rattle.core_model.specs.Step.{aborting, try_ended, next_item}
 use Rattle.core_model.proofs.Fewer.{same_or_not}
 use Rattle.core_model.proofs.Moves.{moved_client, others_stay}
 use Rattle.fabric_model.specs.Laws.{IsReached}
+use Rattle.fabric_model.specs.Recovery.{resumed}
 use Rattle.fabric_model.specs.Run.{opening}
 use Rattle.fabric_model.specs.State.{Records, State, client_at, log_at, no_records}
-use Rattle.fabric_model.specs.Step.{granted, refused, released, decided, logged, posted, taken, installed, switched, entered, behind_entry}
-use Rattle.fabric_model.proofs.MoveKinds.{Move, Grants, Refuses, Releases, Decides, Logs, Posts, Takes, Installs, Moved, ByClient, AtPort, AtStage, move_of}
-use Rattle.fabric_model.proofs.Present.{clients_stay}
+use Rattle.fabric_model.specs.Step.{lost, granted, refused, released, decided, logged, posted, taken, installed, switched, entered, behind_entry, recovered}
+use Rattle.fabric_model.proofs.MoveKinds.{Move, Loses, Grants, Refuses, Releases, Decides, Logs, Posts, Takes, Installs, Moved, ByClient, AtPort, AtStage, Recovers, move_of}
+use Rattle.fabric_model.proofs.Present.{client_recovered, clients_stay}
 use Rattle.fabric_model.proofs.Runs.{of_reached}
 
 -- ---- logs
@@ -25,7 +27,8 @@ abbrev pub LogBecomes : State → ℕ → State → Records → Type 0
 LogBecomes s c after log = ((after.logs ≡ s.logs) × (log ≡ log_at s c)) ⊎ (after.logs ≡ set s.logs c log)
 
 logs_moved : (plan : Plan) (s : State) (c : ℕ) (after : State) → Move plan s c after → length after.logs ≡ length s.logs
-unfolding granted refused released decided logged posted taken installed
+unfolding lost granted refused released decided logged posted taken installed
+logs_moved plan s c after (Loses now phase item up is) = ap (λ (z : State). length z.logs) is
 logs_moved plan s c after (Grants op asks next free is) = ap (λ (z : State). length z.logs) is
 logs_moved plan s c after (Refuses op by asks next held is) = ap (λ (z : State). length z.logs) is
 logs_moved plan s c after (Releases phase is) = ap (λ (z : State). length z.logs) is
@@ -46,10 +49,16 @@ pub logs_at_stage : (s : State) (next : Switch) → (switched s next).logs ≡ s
 unfolding switched
 logs_at_stage s next = refl
 
+-- nor does recovery
+pub logs_recovered : (plan : Plan) (s : State) (order : List Task) → (recovered plan s order).logs ≡ s.logs
+unfolding recovered
+logs_recovered plan s order = refl
+
 logs_same : (plan : Plan) (s after : State) (actor : Actor) → Moved plan s after actor → length after.logs ≡ length s.logs
 logs_same plan s after actor (ByClient c within move) = logs_moved plan s c after move
 logs_same plan s after actor (AtPort c now next up to is) = ap length (ap (λ (z : State). z.logs) is ∙ logs_at_port s c (desk_at now c) (next_number now) next)
 logs_same plan s after actor (AtStage x now next up to is) = ap length (ap (λ (z : State). z.logs) is ∙ logs_at_stage s next)
+logs_same plan s after actor (Recovers order down found is) = ap length (ap (λ (z : State). z.logs) is ∙ logs_recovered plan s order)
 
 as_many : (plan : Plan) (s : State) → IsReached plan s → length s.logs ≡ length plan.clients
 unfolding opening
@@ -92,6 +101,13 @@ each_moved P s after c y log lt as_many is becomes others mine d = elim (same_or
 pub each_still : (P : ℕ → ClientState → Records → Type 0) (s after : State) → after.clients ≡ s.clients → after.logs ≡ s.logs → EachClient P s → EachClient P after
 each_still P s after clients logs all d =
     subst (λ (l : List ClientState). P d (get_or l d (at_item 0 1 zero_stamp)) (log_at after d)) (sym clients) (subst (λ (l : List Records). P d (client_at s d) (get_or l d no_records)) (sym logs) (all d))
+
+-- all go on from a lost switch
+pub each_resumed : (plan : Plan) (P : ℕ → ClientState → Records → Type 0) (s after : State) (order : List Task) → after ≡ recovered plan s order → ((d : ℕ) → P d (client_at s d) (log_at s d) → P d (resumed (client_at s d)) (log_at s d))
+    → EachClient P s → EachClient P after
+each_resumed plan P s after order is resumes all d =
+    subst (λ (x : ClientState). P d x (log_at after d)) (sym (client_recovered plan s after order is d))
+    (subst (λ (l : List Records). P d (resumed (client_at s d)) (get_or l d no_records)) (sym (ap (λ (z : State). z.logs) is ∙ logs_recovered plan s order)) (resumes d (all d)))
 
 -- ---- a client's next item
 

@@ -1,13 +1,14 @@
 -- Unless it has finished, a client is at one of its items, and has a try left.
-use Rattle.std.proofs.Common.{◌≡◌, ℕ, zero, suc, ◌+◌, ◌-◌, ◌<◌, ◌≤◌, ◌==◌, Bool, true, false, List, [], ◌∷◌, length, length-set, take, set, get_or, Some, inl, inr, refl, sym, ap, subst, ◌∙◌, arith, if◌then◌else◌}
+use Rattle.std.proofs.Common.{◌≡◌, ℕ, zero, suc, ◌+◌, ◌-◌, ◌<◌, ◌≤◌, ◌==◌, Bool, true, false, List, [], ◌∷◌, length, length-set, map, take, set, get_or, Some, inl, inr, refl, sym, ap, subst, ◌∙◌, arith, if◌then◌else◌}
 use Rattle.std.proofs.lemmas.List.{length-map}
 use Rattle.txn_model.specs.declared.pairs.Pair.{Pair}
 use Rattle.txn_model.specs.declared.stamp.Stamp.{Stamp}
-use Rattle.catalogue.specs.Plan.{Plan, PlainItem, items_of}
+use Rattle.catalogue.specs.Plan.{Plan, PlainItem, items_of, hot_cells}
 use Rattle.catalogue.specs.declared.actor.Actor.{Actor}
 use Rattle.warm_split.specs.Joined.{joined}
-use Rattle.switch_model.specs.Switch.{Switch, Answer, Desk, Vacant, Posted, Entered, desk_at, next_number}
-use Rattle.core_model.specs.declared.phase.Phase.TheVariants.{Aborting, Logged, Waiting, Installing, Finished}
+use Rattle.placement_model.specs.Placements.{Task, packets_of}
+use Rattle.switch_model.specs.Switch.{Switch, Answer, Desk, Vacant, Posted, Entered, desk_at, next_number, restored}
+use Rattle.core_model.specs.declared.phase.Phase.TheVariants.{Ready, Aborting, Logged, Waiting, Installing, Finished}
 use Rattle.core_model.specs.Facts.{steps_now}
 use Rattle.core_model.specs.Run.{first_clients}
 use Rattle.core_model.specs.State.{ClientState, at_item, script_now, zero_stamp}
@@ -17,11 +18,12 @@ use Rattle.core_model.proofs.Moves.{moved_client, others_stay}
 use Rattle.core_model.proofs.Stuck.{IsPresent, asking_open}
 use Rattle.fabric_model.specs.Intents.{values_of}
 use Rattle.fabric_model.specs.Laws.{IsReached}
+use Rattle.fabric_model.specs.Recovery.{desks_from, waits_again, resumed}
 use Rattle.fabric_model.specs.Run.{opening}
 use Rattle.fabric_model.specs.State.{State, client_at}
-use Rattle.fabric_model.specs.Step.{granted, refused, released, decided, logged, posted, taken, installed, switched, entered, behind_entry, replied}
+use Rattle.fabric_model.specs.Step.{lost, granted, refused, released, decided, logged, posted, taken, installed, switched, entered, behind_entry, recovered, replied}
 use Rattle.fabric_model.proofs.FromCore.{present_at, present_aborting, present_installed}
-use Rattle.fabric_model.proofs.MoveKinds.{Move, Grants, Refuses, Releases, Decides, Logs, Posts, Takes, Installs, Moved, ByClient, AtPort, AtStage, move_of}
+use Rattle.fabric_model.proofs.MoveKinds.{Move, Loses, Grants, Refuses, Releases, Decides, Logs, Posts, Takes, Installs, Moved, ByClient, AtPort, AtStage, Recovers, move_of}
 use Rattle.fabric_model.proofs.Runs.{of_reached}
 
 -- the reply of a client whose packet has this answer, and its stamp
@@ -46,8 +48,15 @@ present_replied plan c x stamp reply at = by (length x.noted == 0)
     by true = present_at plan c (x.seq + 1) (record x { phase = Installing; last = stamp; reply = reply }) (omega (arith, at.2)) (omega arith)
     by false = λ _. at
 
+present_next : (plan : Plan) (c : ℕ) (x : ClientState) → (1 ≤ x.seq) × (x.seq ≤ length (items_of plan c)) × (x.refused < plan.tries) → IsPresent plan c (next_item plan c x)
+present_next plan c x at = present_at plan c (x.seq + 1) x (omega (arith, at.2)) (omega arith)
+
 becomes : (plan : Plan) (s : State) (c : ℕ) (after : State) → IsPresent plan c (client_at s c) → Move plan s c after → Becomes plan s c after
-unfolding granted refused released decided logged posted taken installed
+unfolding lost granted refused released decided logged posted taken installed
+becomes plan s c after here (Loses now phase item up is) = (_, ap (λ (z : State). z.clients) is, present_next plan c (client_at s c) (here (λ i. clash (sym phase ∙ i))))
+  where
+    clash : Ready ≡ Finished → ⊥
+    clash e = cc
 becomes plan s c after here (Grants op asks next free is) = (_, ap (λ (z : State). z.clients) is, λ _. here (asking_open (client_at s c) asks))
 becomes plan s c after here (Refuses op by asks next held is) = (_, ap (λ (z : State). z.clients) is, present_aborting plan c (client_at s c) (client_at s c).noted (here (asking_open (client_at s c) asks)))
 becomes plan s c after here (Releases phase is) = (_, ap (λ (z : State). z.clients) is, present_aborting plan c (client_at s c) (take (length (client_at s c).noted - 1) (client_at s c).noted) (here (λ i. clash (sym phase ∙ i))))
@@ -98,12 +107,36 @@ pub switch_at_stage : (s : State) (next : Switch) → (switched s next).switch �
 unfolding switched
 switch_at_stage s next = refl
 
+-- ---- recovery
+
+-- a client that is past the last one has finished
+pub resumed_at : (clients : List ClientState) (c : ℕ) → get_or (map resumed clients) c (at_item 0 1 zero_stamp) ≡ resumed (get_or clients c (at_item 0 1 zero_stamp))
+resumed_at [] c = refl
+resumed_at (x ∷ clients) zero = refl
+resumed_at (x ∷ clients) (suc c) = resumed_at clients c
+
+pub clients_recovered : (plan : Plan) (s : State) (order : List Task) → (recovered plan s order).clients ≡ map resumed s.clients
+unfolding recovered
+clients_recovered plan s order = refl
+
+-- the switch is up
+pub up_recovered : (plan : Plan) (s : State) (order : List Task) → (recovered plan s order).switch ≡ Some (restored (hot_cells plan) (packets_of order) (desks_from order 0 (length s.clients)))
+unfolding recovered
+up_recovered plan s order = refl
+
+-- each client goes on, and waits where it had logged its packet
+pub client_recovered : (plan : Plan) (s after : State) (order : List Task) → after ≡ recovered plan s order → (c : ℕ) → client_at after c ≡ resumed (client_at s c)
+client_recovered plan s after order is c =
+    ap (λ (l : List ClientState). get_or l c (at_item 0 1 zero_stamp)) (ap (λ (z : State). z.clients) is ∙ clients_recovered plan s order) ∙ resumed_at s.clients c
+
 present_step : (plan : Plan) (s after : State) (actor : Actor) → ArePresent plan s → Moved plan s after actor → ArePresent plan after
 present_step plan s after actor here (ByClient c within move) = present_moved plan s c after within here move
 present_step plan s after actor here (AtPort c now next up to is) =
     λ d. subst (λ (l : List ClientState). IsPresent plan d (get_or l d (at_item 0 1 zero_stamp))) (sym (ap (λ (z : State). z.clients) is ∙ clients_at_port s c (desk_at now c) (next_number now) next)) (here d)
 present_step plan s after actor here (AtStage x now next up to is) =
     λ d. subst (λ (l : List ClientState). IsPresent plan d (get_or l d (at_item 0 1 zero_stamp))) (sym (ap (λ (z : State). z.clients) is ∙ clients_at_stage s next)) (here d)
+present_step plan s after actor here (Recovers order down found is) =
+    λ d. subst (λ (x : ClientState). IsPresent plan d x) (sym (client_recovered plan s after order is d)) (λ active. here d (λ finished. active (ap waits_again finished)))
 
 present_at_opening : (plan : Plan) → 1 ≤ plan.tries → ArePresent plan (opening plan)
 unfolding opening
@@ -121,7 +154,8 @@ present_of plan s reached =
 
 -- a move changes clients in their places
 clients_moved : (plan : Plan) (s : State) (c : ℕ) (after : State) → Move plan s c after → length after.clients ≡ length s.clients
-unfolding granted refused released decided logged posted taken installed
+unfolding lost granted refused released decided logged posted taken installed
+clients_moved plan s c after (Loses now phase item up is) = ap (λ (z : State). length z.clients) is ∙ length-set s.clients c _
 clients_moved plan s c after (Grants op asks next free is) = ap (λ (z : State). length z.clients) is ∙ length-set s.clients c _
 clients_moved plan s c after (Refuses op by asks next held is) = ap (λ (z : State). length z.clients) is ∙ length-set s.clients c _
 clients_moved plan s c after (Releases phase is) = ap (λ (z : State). length z.clients) is ∙ length-set s.clients c _
@@ -135,6 +169,7 @@ pub clients_same : (plan : Plan) (s after : State) (actor : Actor) → Moved pla
 clients_same plan s after actor (ByClient c within move) = clients_moved plan s c after move
 clients_same plan s after actor (AtPort c now next up to is) = ap length (ap (λ (z : State). z.clients) is ∙ clients_at_port s c (desk_at now c) (next_number now) next)
 clients_same plan s after actor (AtStage x now next up to is) = ap length (ap (λ (z : State). z.clients) is ∙ clients_at_stage s next)
+clients_same plan s after actor (Recovers order down found is) = ap length (ap (λ (z : State). z.clients) is ∙ clients_recovered plan s order) ∙ length-map s.clients resumed
 
 -- a session's clients stay
 pub clients_stay : (plan : Plan) (s : State) → IsReached plan s → length s.clients ≡ length plan.clients

@@ -9,9 +9,9 @@ use Rattle.fabric_model.specs.Intents.{intent_now, with_intent, with_outcome}
 use Rattle.fabric_model.specs.Laws.{IsReached}
 use Rattle.fabric_model.specs.Recorded.{IsLonger}
 use Rattle.fabric_model.specs.State.{Records, State, client_at, log_at, no_records}
-use Rattle.fabric_model.specs.Step.{granted, refused, released, decided, logged, posted, taken, installed, step}
-use Rattle.fabric_model.proofs.MoveKinds.{Move, Grants, Refuses, Releases, Decides, Logs, Posts, Takes, Installs, Moved, ByClient, AtPort, AtStage, move_of}
-use Rattle.fabric_model.proofs.PerClient.{log_now, log_then, logs_stay, logs_at_port, logs_at_stage}
+use Rattle.fabric_model.specs.Step.{lost, granted, refused, released, decided, logged, posted, taken, installed, step}
+use Rattle.fabric_model.proofs.MoveKinds.{Move, Loses, Grants, Refuses, Releases, Decides, Logs, Posts, Takes, Installs, Moved, ByClient, AtPort, AtStage, Recovers, move_of}
+use Rattle.fabric_model.proofs.PerClient.{log_now, log_then, logs_stay, logs_at_port, logs_at_stage, logs_recovered}
 
 none_longer : (log : Records) → IsLonger log log
 none_longer log = record { intents = []; outcomes = []; more_intents = sym (append-nil log.intents); more_outcomes = sym (append-nil log.outcomes) }
@@ -32,7 +32,8 @@ outcome_longer : (log : Records) (outcome : PlainOutcome) → IsLonger log (with
 outcome_longer log outcome = record { intents = []; outcomes = outcome ∷ []; more_intents = sym (append-nil log.intents); more_outcomes = refl }
 
 longer_moved : (plan : Plan) (s : State) (c : ℕ) (after : State) (d : ℕ) → c < length s.logs → Move plan s c after → IsLonger (log_at s d) (log_at after d)
-unfolding granted refused released decided logged posted taken installed
+unfolding lost granted refused released decided logged posted taken installed
+longer_moved plan s c after d lt (Loses now phase item up is) = same_longer s after d (ap (λ (z : State). z.logs) is)
 longer_moved plan s c after d lt (Grants op asks next free is) = same_longer s after d (ap (λ (z : State). z.logs) is)
 longer_moved plan s c after d lt (Refuses op by asks next held is) = same_longer s after d (ap (λ (z : State). z.logs) is)
 longer_moved plan s c after d lt (Releases phase is) = same_longer s after d (ap (λ (z : State). z.logs) is)
@@ -46,6 +47,7 @@ longer_step : (plan : Plan) (s after : State) (actor : Actor) (d : ℕ) → leng
 longer_step plan s after actor d as_many (ByClient c within move) = longer_moved plan s c after d (omega (arith, within, as_many)) move
 longer_step plan s after actor d as_many (AtPort c now next up to is) = same_longer s after d (ap (λ (z : State). z.logs) is ∙ logs_at_port s c (desk_at now c) (next_number now) next)
 longer_step plan s after actor d as_many (AtStage x now next up to is) = same_longer s after d (ap (λ (z : State). z.logs) is ∙ logs_at_stage s next)
+longer_step plan s after actor d as_many (Recovers order down found is) = same_longer s after d (ap (λ (z : State). z.logs) is ∙ logs_recovered plan s order)
 
 pub records_stay : (plan : Plan) (s after : State) (actor : Actor) → IsReached plan s → step plan s actor ≡ Some after → (c : ℕ) → IsLonger (log_at s c) (log_at after c)
 records_stay plan s after actor reached is c = longer_step plan s after actor c (logs_stay plan s reached) (move_of plan s actor after is)

@@ -14,8 +14,8 @@ use Rattle.switch_model.specs.Switch.{Switch, Desk, Vacant, Posted, Entered, des
 use Rattle.fabric_model.specs.Asking.{IsTrue}
 use Rattle.fabric_model.specs.Run.{opening, state_behind, state_of}
 use Rattle.fabric_model.specs.State.{State, client_at}
-use Rattle.fabric_model.specs.Step.{granted, refused, released, decided, logged, posted, taken, installed, switched, entered, behind_entry, holder, next_op}
-use Rattle.fabric_model.proofs.MoveKinds.{Move, Grants, Refuses, Releases, Decides, Logs, Posts, Takes, Installs, Moved, ByClient, AtPort, AtStage, move_of}
+use Rattle.fabric_model.specs.Step.{lost, granted, refused, released, decided, logged, posted, taken, installed, switched, entered, behind_entry, recovered, holder, next_op}
+use Rattle.fabric_model.proofs.MoveKinds.{Move, Loses, Grants, Refuses, Releases, Decides, Logs, Posts, Takes, Installs, Moved, ByClient, AtPort, AtStage, Recovers, move_of}
 use Rattle.fabric_model.proofs.Runs.{first_move, one_more, step_is_counted}
 
 abbrev refusal : State → ℕ → Op → ℕ → Refusal
@@ -33,7 +33,8 @@ pub record IsRefusal (plan : Plan) (s : State) (actor : Actor) (after : State) :
   pub refusals : after.refusals ≡ s.refusals ++ refusal s client op by ∷ []
 
 of_client : (plan : Plan) (s : State) (c : ℕ) (after : State) → Move plan s c after → (after.refusals ≡ s.refusals) ⊎ IsRefusal plan s (Client c) after
-unfolding granted refused released decided logged posted taken installed
+unfolding lost granted refused released decided logged posted taken installed
+of_client plan s c after (Loses now phase item up is) = inl (ap (λ (z : State). z.refusals) is)
 of_client plan s c after (Grants op asks next free is) = inl (ap (λ (z : State). z.refusals) is)
 of_client plan s c after (Refuses op by asks next held is) = inr (record { client = c; is = refl; op = op; by = by; asks = asks; next = next; held = held; refusals = ap (λ (z : State). z.refusals) is })
 of_client plan s c after (Releases phase is) = inl (ap (λ (z : State). z.refusals) is)
@@ -50,10 +51,11 @@ at_port s c (Posted p) number next = refl
 at_port s c (Entered k) number next = refl
 
 pub refusals_of : (plan : Plan) (s after : State) (actor : Actor) → Moved plan s after actor → (after.refusals ≡ s.refusals) ⊎ IsRefusal plan s actor after
-unfolding switched
+unfolding switched recovered
 refusals_of plan s after actor (ByClient c within move) = of_client plan s c after move
 refusals_of plan s after actor (AtPort c now next up to is) = inl (ap (λ (z : State). z.refusals) is ∙ at_port s c (desk_at now c) (next_number now) next)
 refusals_of plan s after actor (AtStage x now next up to is) = inl (ap (λ (z : State). z.refusals) is)
+refusals_of plan s after actor (Recovers order down found is) = inl (ap (λ (z : State). z.refusals) is)
 
 true_refusals : (plan : Plan) (rest done : List Actor) (s after : State) → state_of plan done ≡ Some s → s.moves ≡ length done → AllByRecursion (IsTrue plan (done ++ rest)) s.refusals → state_behind plan s rest ≡ Some after
     → AllByRecursion (IsTrue plan (done ++ rest)) after.refusals

@@ -10,9 +10,10 @@ use Rattle.core_model.specs.Laws.{IsAscending}
 use Rattle.core_model.specs.StampOrder.{Below}
 use Rattle.fabric_model.specs.Laws.{IsReached, HasRisingStamps}
 use Rattle.fabric_model.specs.State.{State}
+use Rattle.fabric_model.proofs.Either.{facts_of}
 use Rattle.fabric_model.proofs.FromCore.{each_seq}
 use Rattle.fabric_model.proofs.InOrder.{items_in_order}
-use Rattle.fabric_model.proofs.Legal.{holds}
+use Rattle.fabric_model.proofs.Legal.{holds_now}
 
 abbrev Rises : HistoryEntry → HistoryEntry → Type 0
 Rises e f = e.entry.client ≡ f.entry.client → e.entry.seq < f.entry.seq → Below e.entry.stamp f.entry.stamp
@@ -62,4 +63,4 @@ all_rise (e ∷ h) sorted up =
     behind (f ∷ l) later all = ((not_later f later.0, all.0), behind l later.1 all.1)
 
 pub rising_stamps : (plan : Plan) (s : State) → IsReached plan s → HasRisingStamps s
-rising_stamps plan s reached = all_rise s.history (holds plan s reached).ties.sorted (items_in_order plan (holds plan) s reached).ascending
+rising_stamps plan s reached = all_rise s.history (facts_of plan s (holds_now plan s reached)).facts.sorted (items_in_order plan (holds_now plan) s reached).ascending

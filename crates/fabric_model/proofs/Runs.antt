@@ -8,8 +8,8 @@ use Rattle.switch_model.specs.Switch.{Switch, Desk, Vacant, Posted, Entered, des
 use Rattle.fabric_model.specs.Laws.{IsReached}
 use Rattle.fabric_model.specs.Run.{opening, state_behind, state_of}
 use Rattle.fabric_model.specs.State.{State}
-use Rattle.fabric_model.specs.Step.{granted, refused, released, decided, logged, posted, taken, installed, switched, entered, behind_entry, step}
-use Rattle.fabric_model.proofs.MoveKinds.{Move, Grants, Refuses, Releases, Decides, Logs, Posts, Takes, Installs, Moved, ByClient, AtPort, AtStage, move_of}
+use Rattle.fabric_model.specs.Step.{lost, granted, refused, released, decided, logged, posted, taken, installed, switched, entered, behind_entry, recovered, step}
+use Rattle.fabric_model.proofs.MoveKinds.{Move, Loses, Grants, Refuses, Releases, Decides, Logs, Posts, Takes, Installs, Moved, ByClient, AtPort, AtStage, Recovers, move_of}
 
 same : {T : Type 0} {a b : T} → Some a ≡ Some b → a ≡ b
 same e = cc
@@ -61,7 +61,8 @@ of_reached plan P first keeps s reached =
 
 -- each move is counted
 counted_by_client : (plan : Plan) (s : State) (c : ℕ) (after : State) → Move plan s c after → after.moves ≡ s.moves + 1
-unfolding granted refused released decided logged posted taken installed
+unfolding lost granted refused released decided logged posted taken installed
+counted_by_client plan s c after (Loses now phase item up is) = ap (λ (z : State). z.moves) is
 counted_by_client plan s c after (Grants op asks next free is) = ap (λ (z : State). z.moves) is
 counted_by_client plan s c after (Refuses op by asks next held is) = ap (λ (z : State). z.moves) is
 counted_by_client plan s c after (Releases phase is) = ap (λ (z : State). z.moves) is
@@ -78,10 +79,11 @@ counted_at_port s c (Posted p) number next = refl
 counted_at_port s c (Entered k) number next = refl
 
 moves_on : (plan : Plan) (s after : State) (actor : Actor) → Moved plan s after actor → after.moves ≡ s.moves + 1
-unfolding switched
+unfolding switched recovered
 moves_on plan s after actor (ByClient c within move) = counted_by_client plan s c after move
 moves_on plan s after actor (AtPort c now next up to is) = ap (λ (z : State). z.moves) is ∙ counted_at_port s c (desk_at now c) (next_number now) next
 moves_on plan s after actor (AtStage x now next up to is) = ap (λ (z : State). z.moves) is
+moves_on plan s after actor (Recovers order down found is) = ap (λ (z : State). z.moves) is
 
 pub step_is_counted : (plan : Plan) (s after : State) (actor : Actor) → step plan s actor ≡ Some after → after.moves ≡ s.moves + 1
 step_is_counted plan s after actor is = moves_on plan s after actor (move_of plan s actor after is)

@@ -10,6 +10,7 @@ use Rattle.txn_model.specs.declared.op.TupleId.{TupleId}
 use Rattle.txn_model.specs.declared.pairs.Pair.{Pair}
 use Rattle.txn_model.specs.declared.stamp.Seen.{Seen}
 use Rattle.txn_model.specs.declared.stamp.Stamp.{Stamp}
+use Rattle.placement_model.specs.Placements.{Task, tasks_of}
 use Rattle.switch_model.specs.Switch.{Switch, Desk, Vacant, Posted, Entered, desk_at, entered, next_number}
 use Rattle.catalogue.specs.Plan.{Plan, PlainItem}
 use Rattle.catalogue.specs.Sound.{item_count}
@@ -23,20 +24,23 @@ use Rattle.core_model.specs.Step.{aborting, try_ended, next_item, installed_one}
 use Rattle.core_model.proofs.Install.{seen_at-insert}
 use Rattle.core_model.proofs.Opening.{first_value}
 use Rattle.core_model.proofs.StepsOf.{all_append}
+use Rattle.fabric_model.specs.Holds.{HoldsNow, WhileUp, WhileLost}
 use Rattle.fabric_model.specs.Laws.{IsReached}
+use Rattle.fabric_model.specs.Recovery.{plain_logs, resumed}
 use Rattle.fabric_model.specs.Room.{IsSmall, FitsRoom}
 use Rattle.fabric_model.specs.Run.{opening, host_rows}
 use Rattle.fabric_model.specs.State.{State, client_at}
-use Rattle.fabric_model.specs.Step.{granted, refused, released, decided, logged, posted, taken, installed, switched, behind_entry, replied}
+use Rattle.fabric_model.specs.Step.{lost, granted, refused, released, decided, logged, posted, taken, installed, switched, behind_entry, recovered, replied}
 use Rattle.fabric_model.specs.Step as fabric
-use Rattle.fabric_model.proofs.FewEntries.{few_entries, few_packets, few_flights}
+use Rattle.fabric_model.proofs.Either.{FactsOf, facts_up, fits_now}
+use Rattle.fabric_model.proofs.FewEntries.{few_entries, few_packets, few_flights, few_tasks}
 use Rattle.fabric_model.proofs.FewRecords.{few_records}
 use Rattle.fabric_model.proofs.FewRefusals.{few_refusals}
-use Rattle.fabric_model.proofs.Legal.{holds}
-use Rattle.fabric_model.proofs.MoveKinds.{Move, Grants, Refuses, Releases, Decides, Logs, Posts, Takes, Installs, Moved, ByClient, AtPort, AtStage, move_of}
+use Rattle.fabric_model.proofs.Legal.{holds_now, holds_up}
+use Rattle.fabric_model.proofs.MoveKinds.{Move, Loses, Grants, Refuses, Releases, Decides, Logs, Posts, Takes, Installs, Moved, ByClient, AtPort, AtStage, Recovers, move_of}
 use Rattle.fabric_model.proofs.MovesLeft.{moves_bounded}
 use Rattle.fabric_model.proofs.PerClient.{client_now, client_then}
-use Rattle.fabric_model.proofs.Present.{reply_to, stamp_of, clients_at_port, clients_at_stage}
+use Rattle.fabric_model.proofs.Present.{reply_to, stamp_of, clients_at_port, clients_at_stage, client_recovered}
 use Rattle.fabric_model.proofs.Runs.{of_reached, step_is_counted}
 use Rattle.core_model.proofs.Fewer.{same_or_not}
 
@@ -128,7 +132,10 @@ store_later : (s after : State) → Low s → after.store ≡ s.store → (t : T
 store_later s after low same = subst (λ (m : stores.Store). (t : TupleId) → IsLow (s.moves + 1) (seen_at m t).stamp) (sym same) (λ t. omega (arith, low.store t))
 
 stays_low : (plan : Plan) (s : State) (c : ℕ) (after : State) → Low s → Move plan s c after → StaysLow s c after
-unfolding granted refused released decided logged posted taken installed
+unfolding lost granted refused released decided logged posted taken installed
+stays_low plan s c after low (Loses now phase item up is) =
+    let x = client_later s.moves (client_at s c) (low.clients c) in
+    record { y = next_item plan c (client_at s c); clients = ap (λ (z : State). z.clients) is; low = record { last = x.last; noted = tt }; store = store_later s after low (ap (λ (z : State). z.store) is) }
 stays_low plan s c after low (Grants op asks next free is) =
     let x = client_later s.moves (client_at s c) (low.clients c) in
     record {
@@ -208,6 +215,10 @@ store_at_stage : (s : State) (next : Switch) → (switched s next).store ≡ s.s
 unfolding switched
 store_at_stage s next = refl
 
+store_recovered : (plan : Plan) (s : State) (order : List Task) → (recovered plan s order).store ≡ s.store
+unfolding recovered
+store_recovered plan s order = refl
+
 low_still : (s after : State) → after.clients ≡ s.clients → after.store ≡ s.store → after.moves ≡ s.moves + 1 → Low s → Low after
 low_still s after clients store count low = record {
   clients = λ d. subst (λ (n : ℕ). LowClient n (client_at after d)) (sym count) (subst (λ (l : List ClientState). LowClient (s.moves + 1) (get_or l d (at_item 0 1 zero_stamp))) (sym clients) (client_later s.moves (client_at s d) (low.clients d)));
@@ -220,6 +231,13 @@ low_step plan s after actor count low (AtPort c now next up to is) =
     low_still s after (ap (λ (z : State). z.clients) is ∙ clients_at_port s c (desk_at now c) (next_number now) next) (ap (λ (z : State). z.store) is ∙ store_at_port s c (desk_at now c) (next_number now) next) count low
 low_step plan s after actor count low (AtStage k now next up to is) =
     low_still s after (ap (λ (z : State). z.clients) is ∙ clients_at_stage s next) (ap (λ (z : State). z.store) is ∙ store_at_stage s next) count low
+low_step plan s after actor count low (Recovers order down found is) = record {
+  clients = λ d. subst (λ (n : ℕ). LowClient n (client_at after d)) (sym count) (subst (LowClient (s.moves + 1)) (sym (client_recovered plan s after order is d)) (again (client_at s d) (client_later s.moves (client_at s d) (low.clients d))));
+  store = λ t. subst (λ (n : ℕ). IsLow n (seen_at after.store t).stamp) (sym count) (store_later s after low (ap (λ (z : State). z.store) is ∙ store_recovered plan s order) t);
+}
+  where
+    again : (x : ClientState) → LowClient (s.moves + 1) x → LowClient (s.moves + 1) (resumed x)
+    again x l = record { last = l.last; noted = l.noted }
 
 -- at the opening each stamp is 0.0
 first_low_clients : (lists : List (List PlainItem)) (c : ℕ) → LowClient 0 (get_or (first_clients lists) c (at_item 0 1 zero_stamp))
@@ -247,19 +265,25 @@ small_noted : (plan : Plan) (s : State) (n : ℕ) (l : List Seen) → n ≤ item
 small_noted plan s n [] few low numbers = tt
 small_noted plan s n (seen ∷ l) few low numbers = (record { number = omega (arith, numbers.0, few); sub = low.0 }, small_noted plan s n l few low.1 numbers.1)
 
+-- the numbers that there are at most
+few_numbers : (plan : Plan) (s : State) → IsReached plan s → HoldsNow plan s → (f : FactsOf plan s) × (f.most ≤ item_count plan)
+few_numbers plan s reached (WhileUp h) = (record { most = length (entered h.now); facts = facts_up plan s h }, few_packets plan s reached h)
+few_numbers plan s reached (WhileLost h) = (record { most = length (tasks_of (plain_logs s.logs)); facts = h.facts }, few_tasks plan s reached)
+
 pub fits_room : (plan : Plan) (s : State) → IsReached plan s → FitsRoom plan s
 fits_room plan s reached =
-    let h = holds plan s reached in
+    let known = few_numbers plan s reached (holds_now plan s reached) in
+    let f = known.0 in
+    let few = known.1 in
     let low = low_of plan s reached in
-    let few = few_packets plan s reached h in
     record {
       history = few_entries plan s reached;
       refusals = few_refusals plan s reached;
-      moves = omega (arith, moves_bounded plan (holds plan) s reached);
+      moves = omega (arith, moves_bounded plan (fits_now plan (holds_now plan)) (holds_up plan) s reached);
       packets = λ now up. few_flights plan s now reached up;
       intents = λ c. (few_records plan s c reached).0;
       outcomes = λ c. (few_records plan s c reached).1;
-      last = λ c. record { number = omega (arith, h.ties.covered.last c, few); sub = (low.clients c).last };
-      noted = λ c. small_noted plan s (length (entered h.now)) (client_at s c).noted few (low.clients c).noted (h.ties.covered.noted c);
-      store = λ t. record { number = omega (arith, h.ties.covered.store_has t, few); sub = low.store t };
+      last = λ c. record { number = omega (arith, f.facts.covered.last c, few); sub = (low.clients c).last };
+      noted = λ c. small_noted plan s f.most (client_at s c).noted few (low.clients c).noted (f.facts.covered.noted c);
+      store = λ t. record { number = omega (arith, f.facts.covered.store_has t, few); sub = low.store t };
     }

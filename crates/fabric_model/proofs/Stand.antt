@@ -1,8 +1,9 @@
 -- Answered entries stand as they are.
-use Rattle.std.proofs.Common.{◌≡◌, ℕ, zero, suc, ◌+◌, ◌<◌, Bool, true, false, List, [], ◌∷◌, ◌++◌, length, get_or, slice_get, Option, Some, None, IsSome, Contains, refl, sym, ap, subst, ◌∙◌, arith, if◌then◌else◌, is_lt}
+use Rattle.std.proofs.Common.{◌≡◌, ℕ, zero, suc, ◌+◌, ◌<◌, Bool, true, false, List, [], ◌∷◌, ◌++◌, length, get_or, slice_get, is_some, Option, Some, None, IsSome, Contains, refl, sym, ap, subst, ◌∙◌, arith, if◌then◌else◌, is_lt}
 use Rattle.txn_model.specs.declared.pairs.Pair.{Pair}
 use Rattle.txn_model.specs.declared.stamp.Stamp.{Stamp}
 use Rattle.history_model.specs.History.{HistoryEntry, History, entry_cmp, with_entry}
+use Rattle.placement_model.specs.Placements.{Task}
 use Rattle.switch_model.specs.Flight.{flight_at, is_done}
 use Rattle.switch_model.specs.Switch as machine
 use Rattle.switch_model.specs.Switch.{Switch, Answer, Desk, Vacant, Posted, Entered, desk_at, next_number, answer_on, answer_of}
@@ -11,15 +12,18 @@ use Rattle.catalogue.specs.declared.actor.Actor.{Actor}
 use Rattle.fabric_model.specs.Carried.{carried, AreCarriedBy, pending_entry, FitsDesk}
 use Rattle.fabric_model.specs.Holds.{Holds}
 use Rattle.fabric_model.specs.Laws.{HasEntry, AnswersStand}
-use Rattle.fabric_model.specs.State.{State, client_at}
-use Rattle.fabric_model.specs.Step.{granted, refused, released, decided, logged, posted, taken, installed, switched, entered, behind_entry, with_reply, step}
+use Rattle.fabric_model.specs.Recovery.{filled}
+use Rattle.fabric_model.specs.State.{State, client_at, answered_ones}
+use Rattle.fabric_model.specs.Step.{lost, granted, refused, released, decided, logged, posted, taken, installed, switched, entered, behind_entry, recovered, with_reply, step}
+use Rattle.fabric_model.proofs.Among.{in_at, at_in}
+use Rattle.fabric_model.proofs.Assembled.{filled_keeps}
 use Rattle.fabric_model.proofs.CarriedLaws.{Unanswered, with_reply-split}
-use Rattle.fabric_model.proofs.MoveKinds.{Move, Grants, Refuses, Releases, Decides, Logs, Posts, Takes, Installs, Moved, ByClient, AtPort, AtStage, move_of}
+use Rattle.fabric_model.proofs.MoveKinds.{Move, Loses, Grants, Refuses, Releases, Decides, Logs, Posts, Takes, Installs, Moved, ByClient, AtPort, AtStage, Recovers, move_of}
 use Rattle.fabric_model.proofs.MovesLeft.{same_switch}
 use Rattle.fabric_model.proofs.Numbers.{pending_at}
 use Rattle.fabric_model.proofs.Present.{reply_to}
 
-all_stand : (before after : History) → ((k : ℕ) (e : HistoryEntry) → slice_get before k ≡ Some e → IsSome e.pairs → HasEntry after e) → AnswersStand before after
+pub all_stand : (before after : History) → ((k : ℕ) (e : HistoryEntry) → slice_get before k ≡ Some e → IsSome e.pairs → HasEntry after e) → AnswersStand before after
 all_stand [] after each = tt
 all_stand (e ∷ h) after each = (each 0 e refl, all_stand h after (λ k f is some. each (suc k) f is some))
 
@@ -91,8 +95,27 @@ answer_number plan s h c answer has = by (desk_at h.now c) refl has (h.ties.unde
     by (Posted p) at e fits = cc
     by (Entered k) at e fits = subst (λ (n : ℕ). Unanswered n s.history) (number_of k (is_done (flight_at h.now.flights k)) e) (split k fits.1)
 
-stands_by_client : (plan : Plan) (s : State) (c : ℕ) (after : State) → Holds plan s → Move plan s c after → AnswersStand s.history after.history
-unfolding granted refused released decided logged posted taken installed
+-- where the unanswered ones leave
+pub ones_stand : (h : History) (k : ℕ) (e : HistoryEntry) → slice_get h k ≡ Some e → IsSome e.pairs → HasEntry (answered_ones h) e
+ones_stand [] k e is some = cc
+ones_stand (f ∷ h) zero e is some = let same : f ≡ e = cc in subst (λ (b : Bool). HasEntry (if b then f ∷ answered_ones h else answered_ones h) e) (sym (ap (λ (g : HistoryEntry). is_some g.pairs) same ∙ tested e.pairs some)) (0, is)
+  where
+    tested : (o : Option (List Pair)) → IsSome o → is_some o ≡ true
+    tested (Some p) i = refl
+    tested None i = cc
+ones_stand (f ∷ h) (suc k) e is some = by (is_some f.pairs) (ones_stand h k e is some)
+  where
+    by : (b : Bool) → HasEntry (answered_ones h) e → HasEntry (if b then f ∷ answered_ones h else answered_ones h) e
+    by true there = (suc there.0, there.1)
+    by false there = there
+
+-- where entries come in for open intents
+filled_stand : (order : List Task) (h : History) → AnswersStand h (filled order h)
+filled_stand order h = all_stand h (filled order h) (λ k e is some. at_in (filled order h) e (filled_keeps 1 order h e (in_at h k e is)))
+
+stands_by_client : (plan : Plan) (s : State) (c : ℕ) (after : State) → ((now : Switch) → s.switch ≡ Some now → Holds plan s) → Move plan s c after → AnswersStand s.history after.history
+unfolding lost granted refused released decided logged posted taken installed
+stands_by_client plan s c after h (Loses now phase item up is) = subst (AnswersStand s.history) (sym (ap (λ (z : State). z.history) is)) (all_stand s.history (answered_ones s.history) (ones_stand s.history))
 stands_by_client plan s c after h (Grants op asks next free is) = same_stands s.history after.history (ap (λ (z : State). z.history) is)
 stands_by_client plan s c after h (Refuses op by asks next held is) = same_stands s.history after.history (ap (λ (z : State). z.history) is)
 stands_by_client plan s c after h (Releases phase is) = same_stands s.history after.history (ap (λ (z : State). z.history) is)
@@ -100,7 +123,8 @@ stands_by_client plan s c after h (Decides asks next cold some is) = more_stands
 stands_by_client plan s c after h (Logs asks next hot is) = same_stands s.history after.history (ap (λ (z : State). z.history) is)
 stands_by_client plan s c after h (Posts now next phase up to is) = same_stands s.history after.history (ap (λ (z : State). z.history) is)
 stands_by_client plan s c after h (Takes now next answer phase up has to is) =
-    reply_stands answer.number (reply_to plan c (client_at s c) answer) s.history after.history (answer_number plan s h c answer (subst (λ (n : Switch). answer_of n c ≡ Some answer) (same_switch up h.up) has)) (ap (λ (z : State). z.history) is)
+    let here = h now up in
+    reply_stands answer.number (reply_to plan c (client_at s c) answer) s.history after.history (answer_number plan s here c answer (subst (λ (n : Switch). answer_of n c ≡ Some answer) (same_switch up here.up) has)) (ap (λ (z : State). z.history) is)
 stands_by_client plan s c after h (Installs p phase at is) = same_stands s.history after.history (ap (λ (z : State). z.history) is)
 
 stands_at_port : (s : State) (c : ℕ) (desk : Desk) (number : ℕ) (next : Switch) → AnswersStand s.history (behind_entry s c desk number next).history
@@ -113,10 +137,15 @@ stands_at_stage : (s : State) (next : Switch) → AnswersStand s.history (switch
 unfolding switched
 stands_at_stage s next = same_stands s.history s.history refl
 
-stands_behind : (plan : Plan) (s after : State) (actor : Actor) → Holds plan s → Moved plan s after actor → AnswersStand s.history after.history
+stands_by_recovery : (plan : Plan) (s : State) (order : List Task) → AnswersStand s.history (recovered plan s order).history
+unfolding recovered
+stands_by_recovery plan s order = filled_stand order s.history
+
+stands_behind : (plan : Plan) (s after : State) (actor : Actor) → ((now : Switch) → s.switch ≡ Some now → Holds plan s) → Moved plan s after actor → AnswersStand s.history after.history
 stands_behind plan s after actor h (ByClient c within move) = stands_by_client plan s c after h move
 stands_behind plan s after actor h (AtPort c now next up to same) = subst (λ (z : State). AnswersStand s.history z.history) (sym same) (stands_at_port s c (desk_at now c) (next_number now) next)
 stands_behind plan s after actor h (AtStage x now next up to same) = subst (λ (z : State). AnswersStand s.history z.history) (sym same) (stands_at_stage s next)
+stands_behind plan s after actor h (Recovers order down found same) = subst (λ (z : State). AnswersStand s.history z.history) (sym same) (stands_by_recovery plan s order)
 
-pub answers_stand : (plan : Plan) (s after : State) (actor : Actor) → Holds plan s → step plan s actor ≡ Some after → AnswersStand s.history after.history
+pub answers_stand : (plan : Plan) (s after : State) (actor : Actor) → ((now : Switch) → s.switch ≡ Some now → Holds plan s) → step plan s actor ≡ Some after → AnswersStand s.history after.history
 answers_stand plan s after actor h is = stands_behind plan s after actor h (move_of plan s actor after is)

@@ -1,13 +1,20 @@
 -- While clients are unfinished, one of the session's actors can move.
-use Rattle.std.proofs.Common.{◌≡◌, ◌≢◌, ℕ, zero, suc, ◌-◌, ◌<◌, ◌≤◌, ◌==◌, ◌&&◌, nat_lt, not, Bool, true, false, List, [], ◌∷◌, length, get_or, slice_get, is_some, Option, Some, None, IsSome, option_map, refl, sym, ap, subst, ◌∙◌, arith, if◌then◌else◌}
+use Rattle.std.proofs.Common.{◌≡◌, ◌≢◌, ℕ, ◌-◌, ◌<◌, ◌≤◌, ◌==◌, ◌&&◌, nat_lt, not, Bool, true, false, List, [], ◌∷◌, length, slice_get, is_some, unwrap_or, Option, Some, None, IsSome, option_map, refl, sym, ap, subst, ◌∙◌, arith, if◌then◌else◌}
 use Rattle.std.specs.List.{list_all}
 use Rattle.std.specs.Option.{option_and_then}
+use Rattle.std.proofs.lemmas.Bool.Decides.{nat_tests}
 use Rattle.txn_model.specs.declared.op.Op.{Op}
 use Rattle.history_model.specs.Chain.{Step}
 use Rattle.history_model.specs.History.{History}
 use Rattle.stage_layout.specs.Late.{is_hot}
-use Rattle.catalogue.specs.Plan.{Plan, PlainItem, items_of, script_in, hot_cells}
-use Rattle.catalogue.specs.declared.actor.Actor.TheVariants.{Client, Port, Stage}
+use Rattle.placement_model.specs.FirstOrder.{first_order}
+use Rattle.placement_model.specs.Placements.{Task}
+use Rattle.placement_model.proofs.First.{no_order_is_no_placement}
+use Rattle.catalogue.specs.Plan.{Plan, PlainItem, Run, Lose, items_of, item_of, script_in, script_of, hot_cells}
+use Rattle.catalogue.specs.Sound.{IsSound}
+use Rattle.catalogue.specs.declared.actor.Actor.TheVariants.{Client, Port, Stage, Recover}
+use Rattle.catalogue.proofs.SoundLaws.{sound_script}
+use Rattle.txn_model.specs.ScriptCheck.{script_fault}
 use Rattle.switch_model.specs.Event as switch
 use Rattle.switch_model.specs.Laws.{CanGoOn, AtStage, AtPort, AtDesk}
 use Rattle.switch_model.specs.Switch.{Switch, Answer, Desk, Vacant, Posted, Entered, desk_at, next_number, answer_on, answer_of}
@@ -19,50 +26,51 @@ use Rattle.core_model.specs.Facts.{steps_now}
 use Rattle.core_model.specs.Locks.{cold_ops}
 use Rattle.core_model.specs.Rota.{has_finished}
 use Rattle.core_model.specs.State.{ClientState, script_now}
-use Rattle.core_model.proofs.Cold.{HasNoLoss}
 use Rattle.core_model.proofs.Decide.{item_at_place}
 use Rattle.core_model.proofs.Decided.{or_false}
 use Rattle.core_model.proofs.Kept.{past_none}
-use Rattle.core_model.proofs.Stuck.{some_op}
 use Rattle.fabric_model.specs.Carried.{FitsDesk}
 use Rattle.fabric_model.specs.ColdFacts.{FitsPhase}
-use Rattle.fabric_model.specs.Driven.{has_no_loss}
-use Rattle.fabric_model.specs.Holds.{Holds}
+use Rattle.fabric_model.specs.Holds.{Holds, HoldsLost, HoldsNow, WhileUp, WhileLost}
 use Rattle.fabric_model.specs.Intents.{packet_now}
 use Rattle.fabric_model.specs.Laws.{IsReached, SomeoneCanMove}
+use Rattle.fabric_model.specs.Recovery.{plain_logs}
 use Rattle.fabric_model.specs.Rota.{all_finished}
 use Rattle.fabric_model.specs.State.{State, client_at}
-use Rattle.fabric_model.specs.Step.{decided, logged, posted, taken, installed, switched, has_hot, logs_or_decides, asks_or_goes_on, next_op, takes, client_step, behind_entry, enters, step}
+use Rattle.fabric_model.specs.Step.{lost, decided, logged, posted, taken, installed, switched, has_hot, logs_or_decides, asks_or_goes_on, next_op, takes, begins, client_step, behind_entry, enters, recovered, order_now, recovers, step}
+use Rattle.fabric_model.proofs.AnsweredButOne.{counted_of, answered_but_one}
 use Rattle.fabric_model.proofs.FromCore.{lt_true, some_unfinished}
 use Rattle.fabric_model.proofs.MovesLeft.{busy_waits}
 use Rattle.fabric_model.proofs.Present.{present_of, clients_stay}
 
--- ---- sessions without losses
+-- ---- items
 
-both : (a b : Bool) → (a && b) ≡ true → (a ≡ true) × (b ≡ true)
-both true b e = (refl, e)
-both false b e = cc
+-- a script without a fault has an operation
+not_empty : (ops : List Op) → script_fault ops ≡ None → 1 ≤ length ops
+unfolding script_fault
+not_empty [] e = cc
+not_empty (op ∷ ops) e = omega arith
 
-passes_each : (items : List PlainItem) (k : ℕ) (item : PlainItem) → list_all (λ i. is_some (script_in i)) items ≡ true → slice_get items k ≡ Some item → is_some (script_in item) ≡ true
-passes_each [] k item all is = cc
-passes_each (first ∷ items) zero item all is = let same : first ≡ item = cc in ap (λ (i : PlainItem). is_some (script_in i)) (sym same) ∙ (both (is_some (script_in first)) (list_all (λ i. is_some (script_in i)) items) all).0
-passes_each (first ∷ items) (suc k) item all is = passes_each items k item (both (is_some (script_in first)) (list_all (λ i. is_some (script_in i)) items) all).1 is
-
-passes_all : (lists : List (List PlainItem)) (c : ℕ) → list_all (λ items. list_all (λ i. is_some (script_in i)) items) lists ≡ true → list_all (λ i. is_some (script_in i)) (get_or lists c []) ≡ true
-passes_all [] c all = refl
-passes_all (items ∷ lists) zero all = (both (list_all (λ i. is_some (script_in i)) items) (list_all (λ l. list_all (λ i. is_some (script_in i)) l) lists) all).0
-passes_all (items ∷ lists) (suc c) all = passes_all lists c (both (list_all (λ i. is_some (script_in i)) items) (list_all (λ l. list_all (λ i. is_some (script_in i)) l) lists) all).1
-
-no_loss : (plan : Plan) → has_no_loss plan ≡ true → HasNoLoss plan
-no_loss plan all c seq item is = some (script_in item) (by (seq == 0) is)
+-- a client that is present has an item
+item_here : (plan : Plan) (c seq : ℕ) → 1 ≤ seq → seq ≤ length (items_of plan c) → IsSome (item_of plan c seq)
+item_here plan c seq one within = by (seq == 0) refl
   where
-    by : (b : Bool) → (if b then None else slice_get (items_of plan c) (seq - 1)) ≡ Some item → is_some (script_in item) ≡ true
-    by true e = cc
-    by false e = passes_each (items_of plan c) (seq - 1) item (passes_all plan.clients c all) e
+    positive : (n : ℕ) → 1 ≤ n → (n == 0) ≡ true → ⊥
+    positive n le e = grind (arith, nat_tests)
 
-    some : (o : Option (List Op)) → is_some o ≡ true → IsSome o
-    some (Some ops) e = refl
-    some None e = cc
+    by : (b : Bool) → (seq == 0) ≡ b → IsSome (if b then None else slice_get (items_of plan c) (seq - 1))
+    by true e = absurd (positive seq one e)
+    by false e = let found = item_at_place (items_of plan c) (seq - 1) (omega (arith, one, within)) in subst IsSome (sym found.1) refl
+
+-- where that is a script, it has an operation
+runs_some : (plan : Plan) (c : ℕ) (x : ClientState) (ops : List Op) → IsSound plan → item_of plan c x.seq ≡ Some (Run ops) → 1 ≤ length (script_now plan c x)
+runs_some plan c x ops sound is =
+    let script : script_of plan c x.seq ≡ Some ops = ap (option_and_then script_in) is in
+    subst (λ (o : Option (List Op)). 1 ≤ length (unwrap_or o [])) (sym script) (not_empty ops (sound_script plan c x.seq ops sound script).script)
+
+-- and a loss has none
+loses_none : (plan : Plan) (c : ℕ) (x : ClientState) → item_of plan c x.seq ≡ Some Lose → script_now plan c x ≡ []
+loses_none plan c x is = ap (λ (o : Option PlainItem). unwrap_or (option_and_then script_in o) []) is
 
 -- ---- clients
 
@@ -71,6 +79,11 @@ some_cold : (plan : Plan) (ops : List Op) → has_hot plan ops ≡ false → 1 �
 some_cold plan [] cold one = absurd (omega (arith, one))
 some_cold plan (op ∷ ops) cold one =
     subst (λ (b : Bool). 1 ≤ length (if not b then op ∷ cold_ops plan.layout ops else cold_ops plan.layout ops)) (sym (or_false (is_hot plan.layout op.tuple) (has_hot plan ops) cold).0) (omega arith)
+
+-- a script with a lock has an operation
+some_of_cold : (plan : Plan) (ops : List Op) (n : ℕ) → 1 ≤ n → n ≤ length (cold_ops plan.layout ops) → 1 ≤ length ops
+some_of_cold plan [] n one few = absurd (omega (arith, one, few))
+some_of_cold plan (op ∷ ops) n one few = omega arith
 
 goes_on : (plan : Plan) (s : State) (c : ℕ) (x : ClientState) → next_op plan c x ≡ None → 1 ≤ length (script_now plan c x) → IsSome (logs_or_decides plan s c x)
 goes_on plan s c x is some = by (has_hot plan (script_now plan c x)) refl
@@ -99,7 +112,9 @@ busy_of plan h c x Vacant fits is = absurd (fits is)
 busy_of plan h c x (Posted p) fits is = λ e. cc
 busy_of plan h c x (Entered k) fits is = λ e. cc
 
-module _ (plan : Plan) (s : State) (reached : IsReached plan s) (h : Holds plan s) where
+-- ---- clients that move whether the switch is up or not
+
+module _ (plan : Plan) (s : State) (reached : IsReached plan s) where
   client_moves : (c : ℕ) → c < length s.clients → IsSome (client_step plan s c (client_at s c) (client_at s c).phase) → IsSome (step plan s (Client c))
   unfolding step
   client_moves c lt is = subst (λ (b : Bool). IsSome (if b then client_step plan s c (client_at s c) (client_at s c).phase else None)) (sym (lt_true c (length s.clients) lt)) is
@@ -111,6 +126,7 @@ module _ (plan : Plan) (s : State) (reached : IsReached plan s) (h : Holds plan 
     moves = client_moves c lt (subst (λ (p : Phase). IsSome (client_step plan s c (client_at s c) p)) (sym is) can);
   }
 
+module _ (plan : Plan) (s : State) (reached : IsReached plan s) (h : Holds plan s) where
   port_moves : (c : ℕ) → IsSome (switch.enter plan.shape h.now c) → IsSome (step plan s (Port c))
   unfolding step
   port_moves c can = subst (λ (o : Option Switch). IsSome (option_and_then (enters plan s c) o)) (sym h.up) (mapped_some (behind_entry s c (desk_at h.now c) (next_number h.now)) (switch.enter plan.shape h.now c) can)
@@ -143,40 +159,70 @@ module _ (plan : Plan) (s : State) (reached : IsReached plan s) (h : Holds plan 
   packet_moves : CanGoOn plan.shape h.now → SomeoneCanMove plan s
   packet_moves (AtStage x lt can) = record { actor = Stage x; is = lt; moves = stage_moves x can }
   packet_moves (AtPort c lt can) = record { actor = Port c; is = omega (arith, lt, h.desks, clients_stay plan s reached); moves = port_moves c can }
-  packet_moves (AtDesk c lt can) = this_moves c (omega (arith, lt, h.desks)) Waiting (taker_waits c can) (takes_some c can)
+  packet_moves (AtDesk c lt can) = this_moves plan s reached c (omega (arith, lt, h.desks)) Waiting (taker_waits c can) (takes_some c can)
 
-  moves_in : HasNoLoss plan → (c : ℕ) → c < length s.clients → (client_at s c).phase ≢ Finished → (q : Phase) → (client_at s c).phase ≡ q → FitsPhase plan c (client_at s c) q → SomeoneCanMove plan s
-  moves_in none c lt active q is fit = by q is fit
+  -- a client that is ready begins its script, or loses the switch
+  begins_some : (c : ℕ) → (client_at s c).phase ≢ Finished → IsSome (client_step plan s c (client_at s c) Ready)
+  begins_some c active = let at = present_of plan s reached c active in by (item_of plan c (client_at s c).seq) refl (item_here plan c (client_at s c).seq at.0 at.1)
     where
-      script : 1 ≤ length (script_now plan c (client_at s c))
-      script = let at = present_of plan s reached c active in some_op plan c (client_at s c) reached.sound none at.0 at.1
+      by : (o : Option PlainItem) → item_of plan c (client_at s c).seq ≡ o → IsSome o → IsSome (begins plan s c (client_at s c) o)
+      by None is some = cc
+      by (Some (Run ops)) is some = asks_can_move plan s c (client_at s c) (next_op plan c (client_at s c)) refl (runs_some plan c (client_at s c) ops reached.sound is)
+      by (Some Lose) is some = subst (λ (o : Option Switch). IsSome (option_map (λ now. lost plan s c (client_at s c)) o)) (sym h.up) refl
 
+  moves_in : (c : ℕ) → c < length s.clients → (client_at s c).phase ≢ Finished → (q : Phase) → (client_at s c).phase ≡ q → FitsPhase plan c (client_at s c) q → SomeoneCanMove plan s
+  moves_in c lt active q is fit = by q is fit
+    where
       apart : Logged ≡ Waiting → ⊥
       apart e = cc
 
+      -- a client that locks has a script
+      script : (client_at s c).phase ≡ Locking → FitsPhase plan c (client_at s c) Locking → 1 ≤ length (script_now plan c (client_at s c))
+      script e f = some_of_cold plan (script_now plan c (client_at s c)) (length (client_at s c).noted) ((counted_of plan s reached c).locks e) f.0
+
       by : (p : Phase) → (client_at s c).phase ≡ p → FitsPhase plan c (client_at s c) p → SomeoneCanMove plan s
-      by Ready e f = this_moves c lt Ready e (asks_can_move plan s c (client_at s c) (next_op plan c (client_at s c)) refl script)
-      by Locking e f = this_moves c lt Locking e (asks_can_move plan s c (client_at s c) (next_op plan c (client_at s c)) refl script)
-      by Aborting e f = this_moves c lt Aborting e refl
+      by Ready e f = this_moves plan s reached c lt Ready e (begins_some c active)
+      by Locking e f = this_moves plan s reached c lt Locking e (asks_can_move plan s c (client_at s c) (next_op plan c (client_at s c)) refl (script e f))
+      by Aborting e f = this_moves plan s reached c lt Aborting e refl
       by Logged e f =
           let vacant = vacant_of plan s.history c (client_at s c) (desk_at h.now c) (h.ties.under_way c) (λ w. apart (sym e ∙ w)) in
-          this_moves c lt Logged e (subst (λ (o : Option Switch). IsSome (option_map (posted s c (client_at s c)) (option_and_then (λ now. switch.post now c (packet_now plan c (client_at s c))) o))) (sym h.up)
+          this_moves plan s reached c lt Logged e (subst (λ (o : Option Switch). IsSome (option_map (posted s c (client_at s c)) (option_and_then (λ now. switch.post now c (packet_now plan c (client_at s c))) o))) (sym h.up)
           (mapped_some (posted s c (client_at s c)) (switch.post h.now c (packet_now plan c (client_at s c))) (can_post h.now c (packet_now plan c (client_at s c)) vacant (omega (arith, lt, h.desks)))))
       by Waiting e f = packet_moves (not_stuck plan.shape (hot_cells plan) h.now c h.reached (busy_of plan s.history c (client_at s c) (desk_at h.now c) (h.ties.under_way c) e))
       by Installing e f =
           let here = item_at_place (steps_now plan c (client_at s c)) (client_at s c).installed (omega (arith, h.ties.installs c e, f.1)) in
-          this_moves c lt Installing e (subst (λ (o : Option Step). IsSome (option_map (installed plan s c (client_at s c)) o)) (sym here.1) refl)
+          this_moves plan s reached c lt Installing e (subst (λ (o : Option Step). IsSome (option_map (installed plan s c (client_at s c)) o)) (sym here.1) refl)
       by Finished e f = absurd (active e)
 
-  someone_moves : HasNoLoss plan → all_finished s ≡ false → SomeoneCanMove plan s
-  someone_moves none more =
+  someone_moves : all_finished s ≡ false → SomeoneCanMove plan s
+  someone_moves more =
       let open_client = some_unfinished s.clients (clients_open (list_all has_finished s.clients) (subst (λ (o : Option Switch). (list_all has_finished s.clients && is_some o) ≡ false) h.up more)) in
       let c = open_client.client in
-      moves_in none c open_client.within open_client.active (client_at s c).phase refl (h.ties.cold.fits c)
+      moves_in c open_client.within open_client.active (client_at s c).phase refl (h.ties.cold.fits c)
     where
       clients_open : (b : Bool) → (b && true) ≡ false → b ≡ false
       clients_open true e = cc
       clients_open false e = refl
 
-pub someone_can_move : (plan : Plan) (s : State) → IsReached plan s → Holds plan s → has_no_loss plan ≡ true → all_finished s ≡ false → SomeoneCanMove plan s
-someone_can_move plan s reached h none more = someone_moves plan s reached h (no_loss plan none) more
+-- ---- a lost switch
+
+-- it can be rebuilt: the logs have a placement, and so a first one
+order_there : (plan : Plan) (s : State) → IsReached plan s → HoldsLost plan s → IsSome (order_now plan s)
+unfolding order_now
+order_there plan s reached h = by (first_order (plain_logs s.logs) (hot_cells plan)) refl
+  where
+    by : (o : Option (List Task)) → first_order (plain_logs s.logs) (hot_cells plan) ≡ o → IsSome o
+    by (Some order) is = refl
+    by None is = absurd (no_order_is_no_placement (plain_logs s.logs) (hot_cells plan) h.order (answered_but_one plan s reached) is h.placed)
+
+recovery_moves : (plan : Plan) (s : State) → IsReached plan s → HoldsLost plan s → SomeoneCanMove plan s
+unfolding step
+recovery_moves plan s reached h = record {
+  actor = Recover;
+  is = tt;
+  moves = subst (λ (o : Option Switch). IsSome (recovers plan s o)) (sym h.lost) (mapped_some (recovered plan s) (order_now plan s) (order_there plan s reached h));
+}
+
+pub someone_can_move : (plan : Plan) (s : State) → IsReached plan s → HoldsNow plan s → all_finished s ≡ false → SomeoneCanMove plan s
+someone_can_move plan s reached (WhileUp h) more = someone_moves plan s reached h more
+someone_can_move plan s reached (WhileLost h) more = recovery_moves plan s reached h

@@ -21,16 +21,17 @@ use Rattle.core_model.proofs.Fewer.{same_or_not}
 use Rattle.core_model.proofs.Holders.{free_of_holder}
 use Rattle.switch_model.specs.Switch.{desk_at, next_number}
 use Rattle.fabric_model.specs.ColdFacts.{FitsPhase}
-use Rattle.fabric_model.specs.Holds.{Holds}
+use Rattle.fabric_model.specs.Holds.{HostFacts}
 use Rattle.fabric_model.specs.Laws.{IsReached}
 use Rattle.fabric_model.specs.State.{State, client_at}
-use Rattle.fabric_model.specs.Step.{granted, refused, released, decided, logged, posted, taken, installed, replied, step}
+use Rattle.fabric_model.specs.Step.{lost, granted, refused, released, decided, logged, posted, taken, installed, replied, step}
 use Rattle.fabric_model.specs.TwoPhases.{locks_at, IsTaken, IsReleased, IsInstalled, KeepsLocks}
 use Rattle.fabric_model.proofs.ColdSteps.{cold_op_at}
-use Rattle.fabric_model.proofs.Legal.{holds}
-use Rattle.fabric_model.proofs.MoveKinds.{Move, Grants, Refuses, Releases, Decides, Logs, Posts, Takes, Installs, Moved, ByClient, AtPort, AtStage, move_of}
+use Rattle.fabric_model.proofs.Either.{facts_of}
+use Rattle.fabric_model.proofs.Legal.{holds_now}
+use Rattle.fabric_model.proofs.MoveKinds.{Move, Loses, Grants, Refuses, Releases, Decides, Logs, Posts, Takes, Installs, Moved, ByClient, AtPort, AtStage, Recovers, move_of}
 use Rattle.fabric_model.proofs.PerClient.{client_now, client_then}
-use Rattle.fabric_model.proofs.Present.{reply_to, stamp_of, clients_at_port, clients_at_stage}
+use Rattle.fabric_model.proofs.Present.{reply_to, stamp_of, clients_at_port, clients_at_stage, client_recovered}
 
 -- one more of a list, the last of its front, and the first behind a place
 one_more_taken : {X : Type 0} (xs : List X) (n : ℕ) (x : X) → slice_get xs n ≡ Some x → take (suc n) xs ≡ take n xs ++ x ∷ []
@@ -98,7 +99,7 @@ reply_holds plan c x stamp reply = by (length x.noted == 0) refl
     by true none = sym (none_dropped (cold_ops plan.layout (script_now plan c x)) (length x.noted) x.installed (omega (arith, equal (length x.noted) 0 none)))
     by false some = refl
 
-module _ (plan : Plan) (s next : State) (c : ℕ) (lt : c < length s.clients) (holds : Holds plan s) where
+module _ (plan : Plan) (s next : State) (c : ℕ) (lt : c < length s.clients) (most : ℕ) (facts : HostFacts plan most (client_at s) s.store s.history) where
   abbrev x : ClientState
   x = client_at s c
 
@@ -112,7 +113,7 @@ module _ (plan : Plan) (s next : State) (c : ℕ) (lt : c < length s.clients) (h
   other y d is n = ap (held plan d) (client_then s next c y d is n)
 
   fits : (p : Phase) → x.phase ≡ p → FitsPhase plan c x p
-  fits p is = subst (λ (q : Phase). FitsPhase plan c x q) is (holds.ties.cold.fits c)
+  fits p is = subst (λ (q : Phase). FitsPhase plan c x q) is (facts.cold.fits c)
 
   asks_free : IsAsking x → x.installed ≡ 0
   asks_free (inl is) = (fits Ready is).1
@@ -127,7 +128,11 @@ module _ (plan : Plan) (s next : State) (c : ℕ) (lt : c < length s.clients) (h
       × ((locks_at plan next c ≡ locks_at plan s c) ⊎ (IsTaken plan s next c ⊎ (IsReleased plan s next c ⊎ IsInstalled plan s next c)))
 
   locks_moved : Move plan s c next → Locks
-  unfolding granted refused released decided logged posted taken installed
+  unfolding lost granted refused released decided logged posted taken installed
+  locks_moved (Loses now phase item up is) =
+      let clients = ap (λ (z : State). z.clients) is in
+      let none = fits Ready phase in
+      (λ d n. other (next_item plan c x) d clients n, inl (ap (held plan c) (mine (next_item plan c x) clients) ∙ sym (ap (λ (l : List Seen). drop x.installed (take (length l) ops)) none.0 ∙ none_dropped ops 0 x.installed (omega arith))))
   locks_moved (Grants op asks asked free is) =
       let clients = ap (λ (z : State). z.clients) is in
       let y : ClientState = record x { phase = Locking; noted = x.noted ++ seen_at s.store op.tuple ∷ [] } in
@@ -193,7 +198,7 @@ module _ (plan : Plan) (s next : State) (c : ℕ) (lt : c < length s.clients) (h
           op = p.0;
           pair = p.1;
           phase = phase;
-          locks = first_dropped ops (length x.noted) x.installed p.0 (cold_op_at plan.layout (script_now plan c x) x.reply x.installed p.0 p.1 at) (holds.ties.installs c phase) ∙ ap (λ (n : ℕ). p.0 ∷ drop n (take (length x.noted) ops)) after ∙ ap (λ (l : List Op). p.0 ∷ l) (sym (ap (held plan c) (mine y clients) ∙ behind.0));
+          locks = first_dropped ops (length x.noted) x.installed p.0 (cold_op_at plan.layout (script_now plan c x) x.reply x.installed p.0 p.1 at) (facts.installs c phase) ∙ ap (λ (n : ℕ). p.0 ∷ drop n (take (length x.noted) ops)) after ∙ ap (λ (l : List Op). p.0 ∷ l) (sym (ap (held plan c) (mine y clients) ∙ behind.0));
           store = ap (λ (z : State). z.store) is;
           until = subst (λ (z : ClientState). (z.phase ≡ Installing) ⊎ (held plan c z ≡ [])) (sym (mine y clients)) behind.1;
         }))),
@@ -205,13 +210,15 @@ still plan s next actor c same = inl (ap (λ (l : List ClientState). held plan c
 
 two_phases_of : (plan : Plan) (s next : State) (actor : Actor) → IsReached plan s → Moved plan s next actor → (c : ℕ) → KeepsLocks plan s next actor c
 two_phases_of plan s next actor reached (ByClient d within move) c =
-    let changed = locks_moved plan s next d within (holds plan s reached) move in
+    let f = facts_of plan s (holds_now plan s reached) in
+    let changed = locks_moved plan s next d within f.most f.facts move in
     elim (same_or_not c d) [
       | inr n ↦ inl (changed.0 c n)
       | inl e ↦ subst (λ (m : ℕ). KeepsLocks plan s next (Client d) m) (sym e) (elim changed.1 [ inl same ↦ inl same | inr how ↦ inr (refl, how) ])
     ]
 two_phases_of plan s next actor reached (AtPort d now after up to is) c = still plan s next actor c (ap (λ (z : State). z.clients) is ∙ clients_at_port s d (desk_at now d) (next_number now) after)
 two_phases_of plan s next actor reached (AtStage x now after up to is) c = still plan s next actor c (ap (λ (z : State). z.clients) is ∙ clients_at_stage s after)
+two_phases_of plan s next actor reached (Recovers order down found is) c = inl (ap (held plan c) (client_recovered plan s next order is c))
 
 pub two_phases : (plan : Plan) (s next : State) (actor : Actor) → IsReached plan s → step plan s actor ≡ Some next → (c : ℕ) → KeepsLocks plan s next actor c
 two_phases plan s next actor reached is c = two_phases_of plan s next actor reached (move_of plan s actor next is) c

@@ -5,7 +5,7 @@ use Rattle.switch_model.specs.Switch.{Switch}
 use Rattle.switch_model.specs.Laws.{left}
 use Rattle.stage_layout.specs.Passes.{plan_of, greatest}
 use Rattle.warm_split.specs.Resolved.{planned_ops}
-use Rattle.catalogue.specs.Plan.{Plan, PlainItem, Run, Lose, items_of}
+use Rattle.catalogue.specs.Plan.{Plan, PlainItem, Run, Lose, items_of, item_of}
 use Rattle.core_model.specs.declared.phase.Phase.{Phase}
 use Rattle.core_model.specs.declared.phase.Phase.TheVariants.{Ready, Locking, Aborting, Logged, Waiting, Installing, Finished}
 use Rattle.core_model.specs.Locks.{cold_ops}
@@ -56,14 +56,20 @@ move_bound plan = clients_bound plan plan.clients
 abbrev pub tries_left : Plan → ℕ → List Op → ℕ
 tries_left plan refused ops = if refused == plan.tries then 0 else script_bound plan (plan.tries - 1 - refused) ops
 
--- what is left of a client's packet; nothing where the switch is lost
+-- the recovery behind an item that loses the switch
+abbrev pub recovery_of : Option PlainItem → ℕ
+recovery_of None = 0
+recovery_of (Some (Run ops)) = 0
+recovery_of (Some Lose) = 1
+
+-- what is left of a client's packet; nothing where the switch is lost, since it is answered by recovery
 abbrev pub way_left : Plan → Option Switch → ℕ → ℕ
 way_left plan None c = 0
 way_left plan (Some now) c = left plan.shape now c
 
--- what is left of a client's present item
+-- what is left of a client's present item: of one that loses the switch, whose script has no operations, its move and recovery
 abbrev pub item_left : Plan → Option Switch → ℕ → ClientState → List Op → Phase → ℕ
-item_left plan now c x ops Ready = tries_left plan x.refused ops - length x.noted
+item_left plan now c x ops Ready = recovery_of (item_of plan c x.seq) + (tries_left plan x.refused ops - length x.noted)
 item_left plan now c x ops Locking = tries_left plan x.refused ops - length x.noted
 item_left plan now c x ops Aborting = length x.noted + tries_left plan (x.refused + 1) ops
 item_left plan now c x ops Logged = 2 + (way_of plan ops + lock_count plan ops)
@@ -80,5 +86,10 @@ abbrev pub left_from : Plan → Option Switch → ℕ → List ClientState → �
 left_from plan now c [] = 0
 left_from plan now c (x ∷ clients) = client_left plan now c x + left_from plan now (c + 1) clients
 
+-- a lost switch is still to be rebuilt
+abbrev pub recovery_left : Option Switch → ℕ
+recovery_left None = 1
+recovery_left (Some now) = 0
+
 abbrev pub moves_left : Plan → State → ℕ
-moves_left plan s = left_from plan s.switch 0 s.clients
+moves_left plan s = left_from plan s.switch 0 s.clients + recovery_left s.switch

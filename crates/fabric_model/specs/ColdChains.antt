@@ -15,9 +15,8 @@ use Rattle.core_model.specs.Facts.{Stands, answered, script_of_entry, writes}
 use Rattle.core_model.specs.Locks.{cold_ops, held}
 use Rattle.core_model.specs.StampOrder.{AtMost}
 use Rattle.core_model.specs.State.{script_now}
-use Rattle.fabric_model.specs.Holds.{answered_ones}
 use Rattle.fabric_model.specs.Recorded.{has_open}
-use Rattle.fabric_model.specs.State.{State, client_at}
+use Rattle.fabric_model.specs.State.{State, client_at, answered_ones}
 
 -- the entry's client still holds the lock on the tuple that it took for this entry's script
 abbrev pub holds_lock : Plan → State → TupleId → HistoryEntry → Bool

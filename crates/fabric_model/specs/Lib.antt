@@ -1,5 +1,6 @@
 pub mod State
 pub mod Intents
+pub mod Recovery
 pub mod Step
 pub mod Run
 pub mod Bound
@@ -18,3 +19,4 @@ pub mod Fixed
 pub mod Recorded
 pub mod Known
 pub mod ColdChains
+pub mod Placed

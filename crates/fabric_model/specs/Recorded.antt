@@ -1,7 +1,7 @@
 -- How the clients' logs, the history and the packets that have entered the switch stand to each other.
 use Rattle.std.specs.Prelude.{◌≡◌, ℕ, ℤ, ◌+◌, ◌<◌, ◌++◌, Bool, true, false, List, [], ◌∷◌, map, slice_get, Option, Some, IsSome, ⊤, if◌then◌else◌}
 use Rattle.std.specs.List.{AllByRecursion}
-use Rattle.history_model.specs.History.{HistoryEntry, History}
+use Rattle.history_model.specs.History.{HistoryEntry, History, AllAnswered}
 use Rattle.switch_packet.specs.Packets.{PlainIntent, PlainOutcome}
 use Rattle.switch_packet.specs.Replay.{replay_all}
 use Rattle.switch_model.specs.Switch.{Switch, entered}
@@ -16,6 +16,7 @@ use Rattle.fabric_model.specs.Carried.{is_carried}
 use Rattle.fabric_model.specs.Intents.{intent_now}
 use Rattle.fabric_model.specs.Laws.{HasEntry}
 use Rattle.fabric_model.specs.State.{Records, State, client_at, log_at}
+use Rattle.fabric_model.specs.Step.{has_hot}
 
 -- the client's packet is in its log, and not yet what came of it
 abbrev pub has_open : Phase → Bool
@@ -31,12 +32,13 @@ has_open Finished = false
 abbrev pub open_intent : Plan → ℕ → ClientState → List PlainIntent
 open_intent plan c x = if has_open x.phase then intent_now plan c x ∷ [] else []
 
--- The outcome answers the client's intent. Its number is above the intent's floor. It is that of the item's entry, whose reply is
+-- The outcome answers the client's intent, whose item has an operation in the switch. Its number is above the intent's floor. It is that of the item's entry, whose reply is
 -- joined of the values that went into the packet and of the outcome's pairs. The packet entered the switch as this number, and
 -- the pairs are those of its replay there.
 pub record IsAnswer (plan : Plan) (h : History) (switch : Option Switch) (c : ℕ) (intent : PlainIntent) (outcome : PlainOutcome) : Type 0 where
   pub seq : intent.packet.seq ≡ outcome.seq
   pub above : intent.floor < outcome.number
+  pub hot : has_hot plan (script_at plan c outcome.seq) ≡ true
   pub values : List ℤ
   pub packet : intent.packet ≡ packet_of plan.shape plan.layout c outcome.seq (script_at plan c outcome.seq) values
   pub entry : HasEntry h (record {
@@ -70,6 +72,11 @@ pub record HasRecords (plan : Plan) (s : State) (c : ℕ) : Type 0 where
   pub outcomes : AreAnswers plan s.history s.switch c answered (log_at s c).outcomes
   pub ascending : IsAscending (seqs_in (log_at s c).intents)
   pub told : AllByRecursion (IsTold c (log_at s c).outcomes) s.history
+
+-- each client has as many outcomes as intents, each answers the intent at its place, and no entry is unanswered
+pub record IsAllAnswered (plan : Plan) (s : State) : Type 0 where
+  pub logs : (c : ℕ) → AreAnswers plan s.history s.switch c (log_at s c).intents (log_at s c).outcomes
+  pub entries : AllAnswered s.history
 
 -- records have been added, and none was changed or taken away
 pub record IsLonger (before after : Records) : Type 0 where

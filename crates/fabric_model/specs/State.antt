@@ -1,6 +1,6 @@
 -- States of the fabric: what there is between two moves.
-use Rattle.std.specs.Prelude.{ℕ, List, [], Option, slice_index_or}
-use Rattle.history_model.specs.History.{History}
+use Rattle.std.specs.Prelude.{ℕ, Bool, List, [], filter, is_some, Option, slice_index_or}
+use Rattle.history_model.specs.History.{HistoryEntry, History}
 use Rattle.host_store.specs.Store.{Store}
 use Rattle.switch_packet.specs.Packets.{PlainIntent, PlainOutcome}
 use Rattle.switch_model.specs.Switch.{Switch}
@@ -31,3 +31,10 @@ client_at s c = slice_index_or s.clients c (at_item 0 1 zero_stamp)
 
 abbrev pub log_at : State → ℕ → Records
 log_at s c = slice_index_or s.logs c no_records
+
+abbrev pub is_answered : HistoryEntry → Bool
+is_answered e = is_some e.pairs
+
+-- the answered entries
+abbrev pub answered_ones : History → History
+answered_ones h = filter is_answered h

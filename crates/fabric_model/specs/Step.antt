@@ -9,10 +9,12 @@ use Rattle.host_store.specs.Store as hosts
 use Rattle.history_model.specs.Chain.{Step}
 use Rattle.history_model.specs.History.{HistoryEntry, History, with_entry}
 use Rattle.switch_packet.specs.Packets.{PlainPacket}
-use Rattle.switch_model.specs.Switch.{Switch, Answer, Desk, Vacant, Posted, Entered, desk_at, next_number, answer_of}
+use Rattle.placement_model.specs.FirstOrder.{first_order}
+use Rattle.placement_model.specs.Placements.{Task, packets_of}
+use Rattle.switch_model.specs.Switch.{Switch, Answer, Desk, Vacant, Posted, Entered, desk_at, next_number, answer_of, restored}
 use Rattle.switch_model.specs.Event as switch
 use Rattle.warm_split.specs.Joined.{joined}
-use Rattle.catalogue.specs.Plan.{Plan}
+use Rattle.catalogue.specs.Plan.{Plan, PlainItem, Run, Lose, item_of, hot_cells}
 use Rattle.catalogue.specs.declared.actor.Actor.{Actor}
 use Rattle.catalogue.specs.declared.actor.Actor.TheVariants.{Client, Port, Stage, Recover}
 use Rattle.core_model.specs.declared.phase.Phase.{Phase}
@@ -22,11 +24,17 @@ use Rattle.core_model.specs.Locks.{cold_ops, holder_from}
 use Rattle.core_model.specs.Decision.{decision_stamp, cold_steps}
 use Rattle.core_model.specs.Step.{next_item, aborting, installed_one}
 use Rattle.fabric_model.specs.Intents.{values_of, packet_now, intent_now, with_intent, with_outcome}
-use Rattle.fabric_model.specs.State.{State, client_at, log_at}
+use Rattle.fabric_model.specs.Recovery.{plain_logs, desks_from, resumed, filled}
+use Rattle.fabric_model.specs.State.{State, client_at, log_at, answered_ones}
 
 -- one move, which changes this client
 abbrev pub moved : State → ℕ → ClientState → State
 moved s c client = record s { clients = set s.clients c client; moves = s.moves + 1 }
+
+-- The switch is lost, and with it all that it had and its counter; what has no answer leaves the history. The client goes on to
+-- its next item.
+unfoldable pub lost : Plan → State → ℕ → ClientState → State
+lost plan s c client = record (moved s c (next_item plan c client)) { switch = None; history = answered_ones s.history }
 
 -- the lock is granted: value and stamp are noted
 unfoldable pub granted : State → ℕ → ClientState → Op → State
@@ -137,8 +145,14 @@ abbrev pub takes : Plan → State → ℕ → ClientState → Switch → Option 
 takes plan s c client now None = None
 takes plan s c client now (Some answer) = option_map (taken plan s c client answer) (switch.take_answer now c)
 
+-- the move of a client that is ready: it asks for the first lock of a transaction, or loses the switch where that is up
+abbrev pub begins : Plan → State → ℕ → ClientState → Option PlainItem → Option State
+begins plan s c client None = None
+begins plan s c client (Some (Run ops)) = asks_or_goes_on plan s c client (next_op plan c client)
+begins plan s c client (Some Lose) = option_map (λ now. lost plan s c client) s.switch
+
 abbrev pub client_step : Plan → State → ℕ → ClientState → Phase → Option State
-client_step plan s c client Ready = asks_or_goes_on plan s c client (next_op plan c client)
+client_step plan s c client Ready = begins plan s c client (item_of plan c client.seq)
 client_step plan s c client Locking = asks_or_goes_on plan s c client (next_op plan c client)
 client_step plan s c client Aborting = Some (released plan s c client)
 client_step plan s c client Logged = option_map (posted s c client) (up s (λ now. switch.post now c (packet_now plan c client)))
@@ -155,9 +169,28 @@ behind_entry s c (Entered k) number after = switched s after
 abbrev pub enters : Plan → State → ℕ → Switch → Option State
 enters plan s c now = option_map (behind_entry s c (desk_at now c) (next_number now)) (switch.enter plan.shape now c)
 
+-- The switch is rebuilt from the clients' logs, whose tasks stand in this order: registers and counter are what the packets leave
+-- that are executed whole in this order. Each open intent has an unanswered entry with its number and its answer in its client's
+-- box, and its client waits.
+unfoldable pub recovered : Plan → State → List Task → State
+recovered plan s order = record s {
+  clients = map resumed s.clients;
+  switch = Some (restored (hot_cells plan) (packets_of order) (desks_from order 0 (length s.clients)));
+  history = filled order s.history;
+  moves = s.moves + 1;
+}
+
+-- the first order of the tasks of the clients' logs
+unfoldable pub order_now : Plan → State → Option (List Task)
+order_now plan s = first_order (plain_logs s.logs) (hot_cells plan)
+
+abbrev pub recovers : Plan → State → Option Switch → Option State
+recovers plan s None = option_map (recovered plan s) (order_now plan s)
+recovers plan s (Some now) = None
+
 -- what an actor's move makes of the state
 unfoldable pub step : Plan → State → Actor → Option State
 step plan s (Client c) = if nat_lt c (length s.clients) then client_step plan s c (client_at s c) (client_at s c).phase else None
 step plan s (Port c) = up s (enters plan s c)
 step plan s (Stage x) = option_map (switched s) (up s (λ now. switch.advance plan.shape now x))
-step plan s Recover = None
+step plan s Recover = recovers plan s s.switch

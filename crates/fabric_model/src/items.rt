@@ -45,12 +45,13 @@ pub fn stamps_stand_above()
 {}
 
 /// Each transaction before a client's present item is committed, and so has an answered entry, or it is
-/// aborted: each of its tries was refused a lock, and it has no entry.
+/// aborted: each of its tries was refused a lock, and it has no entry. Each item there that loses the switch
+/// has ended as lost.
 pub fn items_end()
     ensures { (plan : Plan) (s : State) → IsReached plan s → HasEnds plan s }
 {}
 
-/// No move changes an answered entry, or takes it away.
+/// No move changes an answered entry, or takes it away, neither a loss of the switch nor its recovery.
 pub fn answered_entries_stand()
     ensures { (plan : Plan) (s next : State) (actor : Actor) → IsReached plan s → step plan s actor ≡ Some next
         → AnswersStand s.history next.history }

@@ -4,8 +4,8 @@ ghost use Rattle.std.specs.Prelude.{◌≡◌, ℕ, Some};
 ghost use Rattle.catalogue.specs.Plan.{Plan};
 ghost use Rattle.catalogue.specs.declared.actor.Actor.{Actor};
 ghost use Rattle.fabric_model.specs.Known.{HasKnownNumbers, HasLastStamps};
-ghost use Rattle.fabric_model.specs.Laws.{IsReached};
-ghost use Rattle.fabric_model.specs.Recorded.{HasRecords, IsLonger};
+ghost use Rattle.fabric_model.specs.Laws.{IsReached, AllFinished};
+ghost use Rattle.fabric_model.specs.Recorded.{HasRecords, IsAllAnswered, IsLonger};
 ghost use Rattle.fabric_model.specs.State.{State, log_at};
 ghost use Rattle.fabric_model.specs.Step.{step};
 
@@ -16,6 +16,12 @@ ghost use Rattle.fabric_model.specs.Step.{step};
 /// Each answered entry of a transaction with a packet has its outcome.
 pub fn records_answer_each_other()
     ensures { (plan : Plan) (s : State) → IsReached plan s → (c : ℕ) → HasRecords plan s c }
+{}
+
+/// When all clients have finished, each intent has its outcome, at its place, and no entry is unanswered, however
+/// often the switch was lost.
+pub fn finished_ones_are_answered()
+    ensures { (plan : Plan) (s : State) → IsReached plan s → AllFinished s → IsAllAnswered plan s }
 {}
 
 /// No move changes a record, or takes it away.

@@ -28,7 +28,7 @@ use Rattle.fabric_model.specs.Run.{state_of}
 use Rattle.fabric_model.specs.State.{State, client_at}
 use Rattle.fabric_model.proofs.Ended.{items_end}
 use Rattle.fabric_model.proofs.InOrder.{items_in_order}
-use Rattle.fabric_model.proofs.Legal.{holds, legal_now, values_now}
+use Rattle.fabric_model.proofs.Legal.{holds_now, legal_when_up, values_when_up}
 use Rattle.fabric_model.proofs.Refusals.{refusals_of_run}
 use Rattle.fabric_model.proofs.Refused.{hot_are_not_refused}
 use Rattle.fabric_model.proofs.Rising.{rising_stamps}
@@ -75,7 +75,7 @@ module _ (plan : Plan) (s : State) (reached : IsReached plan s) (finished : IsFi
   all_past c seq within = omega (arith, within, (are_placed plan s reached c).behind (finished_at s.clients c finished.clients))
 
   ended : (c seq : ℕ) → IsSome (item_of plan c seq) → IsEnded plan s c seq
-  ended c seq some = items_end plan (holds plan) s reached c seq some (all_past c seq (place_of_item plan c seq some).1)
+  ended c seq some = items_end plan (holds_now plan) s reached c seq some (all_past c seq (place_of_item plan c seq some).1)
 
 -- what is found in front of others, or behind them
 found_before : (test : Refusal → Bool) (a b : List Refusal) → IsSome (find test a) → IsSome (find test (a ++ b))
@@ -194,7 +194,7 @@ all_hot rows ops = by (list_all (λ op. is_hot rows op.tuple) ops) (list_any (λ
     by false false e = cc
 
 pub run_is_serial : (plan : Plan) (s : State) → IsReached plan s → IsFinished s → IsSerial plan s
-run_is_serial plan s reached finished = record { history = legal_now plan s reached.sound (holds plan s reached); values = values_now plan s reached.sound (holds plan s reached) finished.clients }
+run_is_serial plan s reached finished = record { history = legal_when_up plan s reached finished.up; values = values_when_up plan s reached finished.up finished.clients }
 
 pub run_is_once_each : (plan : Plan) (trace : List Actor) (s : State) → state_of plan trace ≡ Some s → has_no_loss plan ≡ true → IsReached plan s → IsFinished s → IsOnceEach plan trace s
 run_is_once_each plan trace s run none reached finished = record {
@@ -204,7 +204,7 @@ run_is_once_each plan trace s run none reached finished = record {
       map-flat_map (client_told plan s) (numbers_below (length plan.clients))
       ∙ alike_from (λ c. map name_of (client_told plan s c)) (λ c. map (λ seq. (c, seq)) (range_with_len 1 (length (items_of plan c)))) 0 (length plan.clients) (λ c _ _. client_lines c);
   entries = each_entry s.history (λ e at. entry_is_item's plan e none at) (are_of_items plan s reached);
-  in_order = (items_in_order plan (holds plan) s reached).ascending;
+  in_order = (items_in_order plan (holds_now plan) s reached).ascending;
   rising = rising_stamps plan s reached;
   stamps = stamps_above plan s (record { sound = reached.sound; trace = trace; run = run });
 }

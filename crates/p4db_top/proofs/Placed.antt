@@ -1,5 +1,5 @@
 -- Where the clients of a run stand among their items, and of which items the entries are.
-use Rattle.std.proofs.Common.{◌≡◌, ℕ, zero, suc, ◌+◌, ◌-◌, ◌<◌, ◌≤◌, ◌==◌, nat_le, Bool, true, false, List, [], ◌∷◌, length, take, get_or, inl, inr, refl, sym, ap, subst, ◌∙◌, arith, if◌then◌else◌}
+use Rattle.std.proofs.Common.{◌≡◌, ℕ, zero, suc, ◌+◌, ◌-◌, ◌<◌, ◌≤◌, ◌==◌, nat_le, Bool, true, false, List, [], ◌∷◌, ◌++◌, length, take, get_or, inl, inr, refl, sym, ap, subst, ◌∙◌, arith, if◌then◌else◌}
 use Rattle.std.specs.List.{AllByRecursion}
 use Rattle.std.proofs.lemmas.Bool.Decides.{nat_tests}
 use Rattle.txn_model.specs.declared.pairs.Pair.{Pair}
@@ -10,7 +10,8 @@ use Rattle.history_model.specs.InOrder.{seqs_of}
 use Rattle.catalogue.specs.Plan.{Plan, PlainItem, items_of}
 use Rattle.catalogue.specs.declared.actor.Actor.{Actor}
 use Rattle.switch_model.specs.Switch.{Desk, desk_at, next_number}
-use Rattle.core_model.specs.declared.phase.Phase.TheVariants.{Ready, Waiting, Installing, Finished}
+use Rattle.core_model.specs.declared.phase.Phase.{Phase}
+use Rattle.core_model.specs.declared.phase.Phase.TheVariants.{Ready, Locking, Aborting, Logged, Waiting, Installing, Finished}
 use Rattle.core_model.specs.Facts.{steps_now}
 use Rattle.core_model.specs.Run.{first_clients}
 use Rattle.core_model.specs.State.{ClientState, at_item, zero_stamp}
@@ -19,17 +20,18 @@ use Rattle.core_model.proofs.Fewer.{same_or_not}
 use Rattle.core_model.proofs.StepsOf.{all_append}
 use Rattle.fabric_model.specs.Intents.{intent_now, with_intent, with_outcome}
 use Rattle.fabric_model.specs.Laws.{IsReached, IsPast}
+use Rattle.fabric_model.specs.Recovery.{waits_again, resumed}
 use Rattle.fabric_model.specs.Run.{opening}
 use Rattle.fabric_model.specs.State.{State, client_at, log_at}
-use Rattle.fabric_model.specs.Step.{granted, refused, released, decided, logged, posted, taken, installed, replied}
+use Rattle.fabric_model.specs.Step.{lost, granted, refused, released, decided, logged, posted, taken, installed, replied}
 use Rattle.fabric_model.proofs.FewRecords.{seq_within}
 use Rattle.fabric_model.proofs.FromCore.{seqs_of-own, seqs_of-other}
-use Rattle.fabric_model.proofs.InOrder.{desk_in, Goes, Stays, Passes, Adds, goes_of, items_in_order}
-use Rattle.fabric_model.proofs.Legal.{holds}
-use Rattle.fabric_model.proofs.MoveKinds.{Move, Grants, Refuses, Releases, Decides, Logs, Posts, Takes, Installs, Moved, ByClient, AtPort, AtStage, move_of}
-use Rattle.fabric_model.proofs.PerClient.{EachClient, each_moved, each_still, logs_stay, logs_at_port, logs_at_stage}
+use Rattle.fabric_model.proofs.InOrder.{desk_in, Goes, Stays, Passes, Leaves, Adds, goes_of, items_in_order}
+use Rattle.fabric_model.proofs.Legal.{holds_now}
+use Rattle.fabric_model.proofs.MoveKinds.{Move, Loses, Grants, Refuses, Releases, Decides, Logs, Posts, Takes, Installs, Moved, ByClient, AtPort, AtStage, Recovers, move_of}
+use Rattle.fabric_model.proofs.PerClient.{EachClient, each_moved, each_still, each_resumed, logs_stay, logs_at_port, logs_at_stage}
 use Rattle.fabric_model.proofs.Present.{reply_to, stamp_of, clients_at_port, clients_at_stage, present_of}
-use Rattle.fabric_model.proofs.Runs.{of_reached}
+use Rattle.fabric_model.proofs.Runs.{of_reached, reached_step}
 
 -- a client is at an item from 1 on, and behind them all where it has finished
 pub record IsPlaced (plan : Plan) (c : ℕ) (x : ClientState) : Type 0 where
@@ -79,7 +81,9 @@ module _ (plan : Plan) (s : State) (c : ℕ) (lt : c < length s.clients) (as_man
   x = client_at s c
 
   placed_moved : (after : State) → Move plan s c after → AllPlaced plan after
-  unfolding granted refused released decided logged posted taken installed
+  unfolding lost granted refused released decided logged posted taken installed
+  placed_moved after (Loses now phase item up is) =
+      each_moved (λ d y l. IsPlaced plan d y) s after c (next_item plan c x) (log_at s c) lt as_many (ap (λ (z : State). z.clients) is) (inl (ap (λ (z : State). z.logs) is, refl)) (λ d n. all d) (placed_at plan c (x.seq + 1) x (omega arith))
   placed_moved after (Grants op asks next free is) =
       each_moved (λ d y l. IsPlaced plan d y) s after c _ (log_at s c) lt as_many (ap (λ (z : State). z.clients) is) (inl (ap (λ (z : State). z.logs) is, refl)) (λ d n. all d) (record { one = (all c).one; behind = λ e. cc })
   placed_moved after (Refuses op by asks next held is) =
@@ -100,12 +104,26 @@ module _ (plan : Plan) (s : State) (c : ℕ) (lt : c < length s.clients) (as_man
       each_moved (λ d y l. IsPlaced plan d y) s after c (installed_one plan c x (length (steps_now plan c x))) (log_at s c) lt as_many (ap (λ (z : State). z.clients) is) (inl (ap (λ (z : State). z.logs) is, refl)) (λ d n. all d)
       (placed_installed plan c x (length (steps_now plan c x)) (all c))
 
+-- a client that waits again behind a recovery
+placed_resumed : (plan : Plan) (c : ℕ) (x : ClientState) → IsPlaced plan c x → IsPlaced plan c (resumed x)
+placed_resumed plan c x here = record { one = here.one; behind = λ e. here.behind (finished x.phase e) }
+  where
+    finished : (p : Phase) → waits_again p ≡ Finished → p ≡ Finished
+    finished Ready e = cc
+    finished Locking e = cc
+    finished Aborting e = cc
+    finished Logged e = cc
+    finished Waiting e = cc
+    finished Installing e = cc
+    finished Finished e = refl
+
 placed_step : (plan : Plan) (s after : State) (actor : Actor) → IsReached plan s → AllPlaced plan s → Moved plan s after actor → AllPlaced plan after
 placed_step plan s after actor reached all (ByClient c within move) = placed_moved plan s c within (logs_stay plan s reached) all after move
 placed_step plan s after actor reached all (AtPort c now next up to is) =
     each_still (λ d x log. IsPlaced plan d x) s after (ap (λ (z : State). z.clients) is ∙ clients_at_port s c (desk_at now c) (next_number now) next) (ap (λ (z : State). z.logs) is ∙ logs_at_port s c (desk_at now c) (next_number now) next) all
 placed_step plan s after actor reached all (AtStage k now next up to is) =
     each_still (λ d x log. IsPlaced plan d x) s after (ap (λ (z : State). z.clients) is ∙ clients_at_stage s next) (ap (λ (z : State). z.logs) is ∙ logs_at_stage s next) all
+placed_step plan s after actor reached all (Recovers order down found is) = each_resumed plan (λ d x log. IsPlaced plan d x) s after order is (λ d here. placed_resumed plan d (client_at s d) here) all
 
 placed_at_opening : (plan : Plan) → AllPlaced plan (opening plan)
 unfolding opening
@@ -126,9 +144,14 @@ are_placed plan s reached =
 AreFromOne : State → Type 0
 AreFromOne s = (c : ℕ) → AllByRecursion (λ q. 1 ≤ q) (seqs_of c s.history)
 
+front_of : (P : ℕ → Type 0) (a b : List ℕ) → AllByRecursion P (a ++ b) → AllByRecursion P a
+front_of P [] b all = tt
+front_of P (q ∷ a) b all = (all.0, front_of P a b all.1)
+
 from_one : (x : ClientState) (desk : Desk) (y : ClientState) (desk_new : Desk) (l l_new : List ℕ) → 1 ≤ x.seq → Goes x desk y desk_new l l_new → AllByRecursion (λ q. 1 ≤ q) l → AllByRecursion (λ q. 1 ≤ q) l_new
 from_one x desk y desk_new l l_new one (Stays is same on) all = subst (AllByRecursion (λ q. 1 ≤ q)) (sym is) all
 from_one x desk y desk_new l l_new one (Passes is later) all = subst (AllByRecursion (λ q. 1 ≤ q)) (sym is) all
+from_one x desk y desk_new l l_new one (Leaves is same waits) all = front_of (λ q. 1 ≤ q) l_new (x.seq ∷ []) (subst (AllByRecursion (λ q. 1 ≤ q)) is all)
 from_one x desk y desk_new l l_new one (Adds is none same its) all = subst (AllByRecursion (λ q. 1 ≤ q)) (sym is) (all_append (λ q. 1 ≤ q) l (x.seq ∷ []) all (one, tt))
 
 none_at_first : (plan : Plan) → AreFromOne (opening plan)
@@ -139,7 +162,7 @@ are_from_one : (plan : Plan) (s : State) → IsReached plan s → (c : ℕ) → 
 unfolding AreFromOne
 are_from_one plan s reached =
     of_reached plan AreFromOne (none_at_first plan) (λ z next actor r all is c.
-    from_one (client_at z c) (desk_in z.switch c) (client_at next c) (desk_in next.switch c) (seqs_of c z.history) (seqs_of c next.history) (are_placed plan z r c).one (goes_of plan z (holds plan z r) next actor (move_of plan z actor next is) c) (all c)) s reached
+    from_one (client_at z c) (desk_in z.switch c) (client_at next c) (desk_in next.switch c) (seqs_of c z.history) (seqs_of c next.history) (are_placed plan z r c).one (goes_of plan z next actor (holds_now plan z r) (holds_now plan next (reached_step plan z next actor r is)) (move_of plan z actor next is) c) (all c)) s reached
 
 -- the entry is that of an item
 abbrev pub IsOfItem : Plan → HistoryEntry → Type 0
@@ -169,4 +192,4 @@ pub are_of_items : (plan : Plan) (s : State) → IsReached plan s → AllByRecur
 are_of_items plan s reached =
     of_all (λ c q. (1 ≤ q) × (q ≤ length (items_of plan c))) s.history (λ c.
     both (λ q. 1 ≤ q) (IsPast (client_at s c)) (λ q. (1 ≤ q) × (q ≤ length (items_of plan c))) (λ q one past. (one, within_items plan s reached c q past)) (seqs_of c s.history)
-    (are_from_one plan s reached c) ((items_in_order plan (holds plan) s reached).past c))
+    (are_from_one plan s reached c) ((items_in_order plan (holds_now plan) s reached).past c))

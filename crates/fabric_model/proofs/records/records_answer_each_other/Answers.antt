@@ -1,4 +1,4 @@
-use Rattle.fabric_model.proofs.AnsweredRecords.{records_answer}
+use Rattle.fabric_model.proofs.Legal.{records_answer}
 use Rattle.fabric_model.proofs.records.records_answer_each_other.Goals as goal
 
 pub returns : goal.returns

@@ -27,4 +27,4 @@ returns-in-Stage-clause-turn g c s turn =
     (c.advance.ensures.turn s c.args.at (subst (λ (a : Actor). IsTurnIn (plan_of c.args.session.now) c.args.self.now a c.args.at s) c.in-Stage.is turn)) c.turn_if-in-Stage.ensures
 
 pub returns-in-Recover-clause-turn : goal.returns-in-Recover-clause-turn
-returns-in-Recover-clause-turn g c s turn = (subst (λ (a : Actor). step (plan_of c.args.session.now) s a ≡ None) (sym c.in-Recover.is) (recover_rests (plan_of c.args.session.now) s), refl)
+returns-in-Recover-clause-turn g c s turn = (subst (λ (a : Actor). step (plan_of c.args.session.now) s a ≡ None) (sym c.in-Recover.is) (recover_rests (plan_of c.args.session.now) s turn.stands.switch.now turn.stands.switch.up), refl)
