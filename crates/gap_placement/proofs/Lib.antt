@@ -1,0 +1,9 @@
+pub mod Walking
+pub mod Answering
+pub mod Searching
+pub mod Standing
+pub mod Steps
+pub mod Putting
+pub mod Seeking
+pub mod RowSteps
+pub mod Whole
