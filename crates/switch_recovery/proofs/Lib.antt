@@ -1,0 +1,2 @@
+pub mod RestoringLaws
+pub mod RecoveringLaws
