@@ -427,3 +427,49 @@ def report_of(run):
 
 def report(session):
     return report_of(Run(session).drive())
+
+
+def hot_rows(session, k):
+    """The k most used tuples, each with its uses."""
+    uses = {tuple_id: 0 for tuple_id, _ in session["tuples"]}
+    for items in session["clients"]:
+        for item in items:
+            for op in [] if item == "lose" else item:
+                uses[op[1]] += 1
+    return sorted(uses.items(), key=lambda row: (-row[1], row[0]))[:k]
+
+
+def hot(session, k):
+    """What `hot K` prints."""
+    rows = hot_rows(session, k)
+    return "".join([f"hot {len(rows)}\n"] + [f"t{tuple_id} {uses}\n" for tuple_id, uses in rows])
+
+
+def passes_in(session, places):
+    """The passes of all transactions with these tuples in the switch."""
+    total = 0
+    for items in session["clients"]:
+        for item in items:
+            if item != "lose":
+                total += max((op["pass"] for op in Script(item, places).plan()), default=0)
+    return total
+
+
+def layout(session, k):
+    """What `layout K` prints."""
+    shape = session["shape"]
+    arrays = [(stage, array) for stage in range(shape["stages"]) for array in range(shape["arrays"])]
+    tuples = [tuple_id for tuple_id, _ in hot_rows(session, min(k, len(arrays) * shape["cells"]))]
+    plain = {tuple_id: (*arrays[i // shape["cells"]], i % shape["cells"]) for i, tuple_id in enumerate(tuples)}
+    scripts = [{op[1] for op in item} for items in session["clients"] for item in items if item != "lose"]
+    filled = {array: [] for array in arrays}
+    greedy = {}
+    for tuple_id in tuples:
+        free = [array for array in arrays if len(filled[array]) < shape["cells"]]
+        best = min(free, key=lambda array: (sum(1 for script in scripts if tuple_id in script and script & set(filled[array])), array))
+        greedy[tuple_id] = (*best, len(filled[best]))
+        filled[best].append(tuple_id)
+    plain_passes, greedy_passes = passes_in(session, plain), passes_in(session, greedy)
+    places, passes = (plain, plain_passes) if plain_passes < greedy_passes else (greedy, greedy_passes)
+    lines = [f"layout {len(tuples)}\n"] + ["t%d %d %d %d\n" % (tuple_id, *places[tuple_id]) for tuple_id in tuples]
+    return "".join(lines + [f"passes {passes} plain {plain_passes}\n"])

@@ -6,3 +6,4 @@ pub mod DrivenRun
 pub mod Claims
 pub mod Explained
 pub mod Notes
+pub mod Printing

@@ -3,3 +3,4 @@ pub mod Status
 pub mod Logs
 pub mod Headline
 pub mod Ran
+pub mod Prints

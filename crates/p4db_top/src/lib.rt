@@ -4,9 +4,11 @@
 //! are handed in.
 #![tactic(auto)]
 
+mod hot;
 mod named;
 mod note;
 mod top;
+mod written;
 
 pub use note::Note;
 pub use session_reader::{Limit, OpAt, Section, SessionFault};

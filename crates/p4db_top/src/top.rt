@@ -42,7 +42,7 @@ fn is_run(words: &[Word]) -> bool
 }
 
 /// Reads the session that is all of the source's bytes.
-fn session_of<S: Source>(alloc: Global, source: &mut S) -> Result<Session, Note>
+pub(crate) fn session_of<S: Source>(alloc: Global, source: &mut S) -> Result<Session, Note>
     ensures ok { IfOk result (λ s. IsRead (S.left source.old) (S.left source.new) (plan_of s)) }
     ensures sound { IfOk result (λ s. IsSound (plan_of s)) }
     ensures err { IfErr result (λ note. StopsReading note (S.left source.old) (S.left source.new)) }
