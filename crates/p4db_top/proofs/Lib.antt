@@ -1,5 +1,3 @@
-pub mod Words
-pub mod Statuses
 pub mod Complete
 pub mod Placed
 pub mod DrivenRun

@@ -1,5 +1,5 @@
 -- The headline, and what each other answer of the top call is owed to.
-use Rattle.std.specs.Prelude.{◌≡◌, ◌≢◌, ◌⊎◌, ℕ, true, false, List, [], ◌∷◌, codes, Option, Some, Ok, Err}
+use Rattle.std.specs.Prelude.{◌≡◌, ◌≢◌, ◌⊎◌, ℕ, true, false, List, Option, Some, Ok, Err}
 use Rattle.std.specs.Io.KnownBytes.{Appends}
 use Rattle.catalogue.specs.Plan.{Plan}
 use Rattle.catalogue.specs.declared.actor.Actor.{Actor}
@@ -23,10 +23,6 @@ use Rattle.p4db_top.specs.Serial.{IsSerial, IsOnceEach, HaveCauses}
 -- the longest input that is read, in bytes
 abbrev pub most_input : ℕ
 most_input = 16777216
-
--- the words of the one command
-abbrev pub IsRun : List (List ℕ) → Type 0
-IsRun words = words ≡ codes "run" ∷ []
 
 -- the source was read to its end, and all that was left in it is the text of this session
 pub record IsRead (left rest : Option (List ℕ)) (session : Plan) : Type 0 where

@@ -4,3 +4,4 @@ pub mod Logs
 pub mod Headline
 pub mod Ran
 pub mod Prints
+pub mod Commands

@@ -1,6 +1,0 @@
-use Rattle.std.proofs.Common.{codes}
-use Rattle.p4db_top.proofs.Words.{one_word}
-use Rattle.p4db_top.proofs.top.is_run.Goals as goal
-
-pub returns-in-len1 : goal.returns-in-len1
-returns-in-len1 c = one_word c.args.words.now c.word-item.result (codes "run") c.eq.result c.in-len1.len_at_least c.in-len1.len_below c.word-item.is (rw c.as_str.ensures.value at c.eq.ensures)
