@@ -18,3 +18,6 @@ mod spot;
 
 pub use first::{place, place_all};
 pub use placement::{Placed, Placement, Slotted};
+
+#[cfg(test)]
+mod tests;
