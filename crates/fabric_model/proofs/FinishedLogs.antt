@@ -21,7 +21,7 @@ all_is_answered plan s reached finished = record {
       let r = records_answer plan s reached c in
       let x = client_at s c in
       let closed : r.answered ++ (if has_open x.phase then intent_now plan c x ∷ [] else []) ≡ r.answered =
-          ap (λ (p : Phase). r.answered ++ (if has_open p then intent_now plan c x ∷ [] else [])) (each_finished s.clients c finished) ∙ append-nil r.answered in
+      ap (λ (p : Phase). r.answered ++ (if has_open p then intent_now plan c x ∷ [] else [])) (each_finished s.clients c finished) ∙ append-nil r.answered in
       subst (λ (l : List PlainIntent). AreAnswers plan s.history s.switch c l (log_at s c).outcomes) (sym (r.intents ∙ closed)) r.outcomes;
   entries = entries_answered plan s reached (holds_now plan s reached) finished;
 }
