@@ -8,11 +8,13 @@
 mod actor;
 mod item;
 mod kind;
+mod load;
 mod session;
 
 pub use actor::{Actor, Actors};
 pub use item::{Clients, Item, MOST_CLIENTS};
 pub use kind::Kind;
+pub use load::{BankPlan, Mix, YcsbPlan};
 pub use session::{MOST_ITEMS, MOST_ROWS, MOST_TRIES, MOST_TUPLES, Session};
 
 #[cfg(test)]
