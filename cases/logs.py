@@ -32,3 +32,16 @@ def named(logs):
 def expect(what, got, wanted):
     if got != wanted:
         print(f"{what}: got {got}, wanted {wanted}")
+
+
+def recover(program, given, logs):
+    """Recovers a session from these files of logs, by name: the status, standard output and standard error. The files must stay."""
+    folder = pathlib.Path("p4db-logs")
+    folder.mkdir(exist_ok=True)
+    for file in folder.iterdir():
+        file.unlink()
+    for name, text in logs.items():
+        (folder / name).write_bytes(text)
+    ran = subprocess.run([program, "recover"], input=json.dumps(given), capture_output=True, text=True, timeout=60)
+    expect("the logs after recover", texts(), logs)
+    return ran.returncode, ran.stdout, ran.stderr

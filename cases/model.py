@@ -473,3 +473,36 @@ def layout(session, k):
     places, passes = (plain, plain_passes) if plain_passes < greedy_passes else (greedy, greedy_passes)
     lines = [f"layout {len(tuples)}\n"] + ["t%d %d %d %d\n" % (tuple_id, *places[tuple_id]) for tuple_id in tuples]
     return "".join(lines + [f"passes {passes} plain {plain_passes}\n"])
+
+
+def recovered(session, records, torn=()):
+    """What `recover` prints for these records of each client, (intents, outcomes), and clients whose logs are torn."""
+    run = Run(session)
+    order = first_order(records, run.first)
+    registers, lines = dict(run.first), [f"order {len(order)}"]
+    for number, (c, k) in enumerate(order, 1):
+        packet = records[c][0][k][1]
+        pairs = " ".join(f"{was}>{now}" for was, now in replay(packet, registers))
+        lines.append(f"{number} c{c} {packet['seq']} {pairs}")
+    lines.append(f"registers {len(run.places)}")
+    lines += [f"t{tuple_id} {registers[run.places[tuple_id]]}" for tuple_id in sorted(run.places)]
+    lines += [f"next {len(order) + 1}", " ".join(["torn", *(f"c{c}" for c in torn)])]
+    return "\n".join(lines) + "\n"
+
+
+def records_in_front(run, client, length):
+    """The records that stand whole in this many bytes of a client's log, and whether what follows is torn."""
+    intents, outcomes, at = [], [], 0
+    for k, (floor, packet) in enumerate(client.intents):
+        text = len(intent_text(floor, packet, sum(1 + half for half in run.halves_of(packet))))
+        if at + text > length:
+            return (intents, outcomes), at < length
+        intents.append((floor, packet))
+        at += text
+        if k < len(client.outcomes):
+            text = len(outcome_text(*client.outcomes[k]))
+            if at + text > length:
+                return (intents, outcomes), at < length
+            outcomes.append(client.outcomes[k])
+            at += text
+    return (intents, outcomes), False
