@@ -194,7 +194,7 @@ unfolding clap_on_literals
 free_is = refl
 
 apart_is : AllByRecursion IsApart built_forms
-apart_is = (refl, (refl, tt))
+apart_is = (refl, (refl, (refl, (refl, (refl, tt)))))
 
 built_line : (words : List Text) → AllByRecursion IsUtf8 words
     → guard (fault_of (line_app built_forms) words) (subcommand_of (line_app built_forms) words) ≡ option_map line_rows (line_of built_forms words)
@@ -260,3 +260,13 @@ line_word (w ∷ ws) l e = go (find (is_named w) built_forms) refl e
         → first_of word_id (rows_of l.1) ≡ value_at None l.1
     go None f h = absurd (true≢false (sym (ap is_some h)))
     go (Some form) f h = values form (found_one w built_forms form apart_is f).1 (given_to form ws) refl h
+
+-- an option that isn't named as the word: its value is that of its rows
+pub value_of_option : (name : Text) → bytes_eq word_id name ≡ false → (ps : List Piece) → first_of name (rows_of ps) ≡ value_at (Some name) ps
+value_of_option name other [] = refl
+value_of_option name other ((None, text) ∷ ps) = rw other (value_of_option name other ps)
+value_of_option name other ((Some m, text) ∷ ps) = go (bytes_eq m name) refl (value_of_option name other ps)
+  where
+    go : (t : Bool) → bytes_eq m name ≡ t → first_of name (rows_of ps) ≡ value_at (Some name) ps → first_of name (rows_of ((Some m, text) ∷ ps)) ≡ value_at (Some name) ((Some m, text) ∷ ps)
+    go true e ih = rw e refl
+    go false e ih = rw e ih

@@ -1,22 +1,22 @@
 -- What an answer of `clap` says of a line of words.
-use Rattle.std.proofs.Common.{◌≡◌, ◌≢◌, ◌⊎◌, ◌∙◌, inl, inr, sym, ap, ap₂, refl, subst, subst₂, true, true≢false, List, [], map, map-id, Option, Some, None, is_some, unwrap_or, option_map, option_and_then, Result, Ok, Err, IsUtf8}
+use Rattle.std.proofs.Common.{codes, ◌≡◌, ◌≢◌, ◌⊎◌, ◌∙◌, inl, inr, sym, ap, ap₂, refl, subst, subst₂, true, true≢false, List, [], map, map-id, Option, Some, None, is_some, unwrap_or, option_map, option_and_then, Result, Ok, Err, IsUtf8}
 use Rattle.std.specs.List.{AllByRecursion}
-use Rattle.clap.specs.Words.{App, Row, HasMatchesOf, kind_of, subcommand_name_of, subcommand_rows_of}
+use Rattle.clap.specs.Words.{App, Row, HasMatchesOf, first_of, kind_of, subcommand_name_of, subcommand_rows_of}
 use Rattle.clap.specs.Kinds.{HasKind, IsAmong}
 use Rattle.clap.specs.Faults.{fault_of, is_simple_and_free}
 use Rattle.clap.specs.declared.error.Error.{Error}
 use Rattle.clap.specs.declared.error.kind.ErrorKind.TheVariants as kind
 use Rattle.clap.specs.declared.parser.matches.ArgMatches.{ArgMatches}
 use Rattle.clap.specs.declared.parser.matches.ArgMatches.TheViews.{out-ArgMatches}
-use Rattle.words_cli.specs.Words.{Text, Piece}
+use Rattle.words_cli.specs.Words.{Text, Place, Piece}
 use Rattle.words_cli.specs.Forms.{line_of, value_at}
 use Rattle.words_cli.specs.Table.{built_forms, command_by, command_of}
 use Rattle.words_cli.specs.Answers.{Answers}
-use Rattle.words_cli.specs.ClapLine.{line_app, line_rows, values_in}
+use Rattle.words_cli.specs.ClapLine.{line_app, line_rows, rows_of, values_in, word_id}
 use Rattle.words_cli.specs.declared.command.Command.{Command}
 use Rattle.words_cli.specs.declared.command.WordFault.{WordFault}
 use Rattle.words_cli.specs.declared.command.WordFault.TheVariants.{Usage, NoMemory}
-use Rattle.words_cli.proofs.Lines.{free_is, line_word, passed_line, refused_line}
+use Rattle.words_cli.proofs.Lines.{free_is, line_word, passed_line, refused_line, value_of_option}
 
 pub parsed_ok : (a : App) (words : List Text) (m : ArgMatches) → a ≡ line_app built_forms → AllByRecursion IsUtf8 words
     → (is_simple_and_free a ≡ true → fault_of a (map (λ w. w) words) ≡ []) → HasMatchesOf a (map (λ w. w) words) m
@@ -64,10 +64,19 @@ no_command_named m e = no_command_here (subcommand_rows_of m) e
 
 -- ---- the command of the words
 
+-- a command looks at these places alone
+same_values : (name : Text) (f g : Place → Option Text) → f None ≡ g None → f (Some (codes "draws")) ≡ g (Some (codes "draws")) → f (Some (codes "number")) ≡ g (Some (codes "number"))
+    → f (Some (codes "threads")) ≡ g (Some (codes "threads")) → command_by name f ≡ command_by name g
+same_values name f g word draws number threads = rw (word, draws, number, threads) refl
+
+line_values : (name : Text) (ps : List Piece) → first_of word_id (rows_of ps) ≡ value_at None ps → command_by name (values_in (rows_of ps)) ≡ command_by name (λ place. value_at place ps)
+line_values name ps word =
+    same_values name (values_in (rows_of ps)) (λ place. value_at place ps) word (value_of_option (codes "draws") refl ps) (value_of_option (codes "number") refl ps) (value_of_option (codes "threads") refl ps)
+
 same_command : (words : List Text) (o : Option (Text × List Piece)) → line_of built_forms words ≡ o
     → option_and_then {T = Text × List Row} (λ s. command_by s.0 (values_in s.1)) (option_map line_rows o) ≡ option_and_then {T = Text × List Piece} (λ line. command_by line.0 (λ place. value_at place line.1)) o
 same_command words None e = refl
-same_command words (Some l) e = ap (λ (w : Option Text). command_by l.0 (λ _. w)) (line_word words l e)
+same_command words (Some l) e = line_values l.0 l.1 (line_word words l e)
 
 pub command_is : (words : List Text) (m : ArgMatches) → subcommand_rows_of m ≡ option_map line_rows (line_of built_forms words)
     → option_and_then {T = Text × List Row} (λ s. command_by s.0 (values_in s.1)) (subcommand_rows_of m) ≡ command_of words

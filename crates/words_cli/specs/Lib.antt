@@ -2,6 +2,7 @@ pub mod Words
 pub mod Forms
 pub mod Numbers
 pub mod Table
+pub mod Ranges
 pub mod Answers
 pub mod ClapLine
 pub mod Loads

@@ -4,40 +4,11 @@ use Rattle.std.specs.Str.{bytes_eq}
 use Rattle.words_cli.specs.Words.{Text, Place}
 use Rattle.words_cli.specs.Forms.{Form}
 use Rattle.words_cli.specs.Numbers.{number_in}
+use Rattle.words_cli.specs.Table.{most_number}
 
 -- what was given to the places of a command
 abbrev pub Values : Type 0
 Values = Place → Option Text
-
--- the greatest number that a generator is made from
-abbrev pub most_number : ℕ
-most_number = 18446744073709551615
-
--- ---- `run --draws N --number M`, both or neither
-
-abbrev pub drawn_run : Form
-drawn_run = record { name = codes "run"; options = codes "draws" ∷ codes "number" ∷ []; takes_word = false }
-
-pub record Draws : Type 0 where
-  pub count : ℕ
-  pub number : ℕ
-
-abbrev pub draws_by : Option Text → Option Text → Option (Option Draws)
-draws_by None None = Some None
-draws_by (Some draws) (Some number) =
-    option_and_then (λ n. option_map (λ m. Some (record { count = n; number = m })) (number_in 0 most_number number)) (number_in 0 1000000 draws)
-draws_by _ _ = None
-
-abbrev pub draws_of : Values → Option (Option Draws)
-draws_of values = draws_by (values (Some (codes "draws"))) (values (Some (codes "number")))
-
--- ---- `race --threads N`
-
-abbrev pub race : Form
-race = record { name = codes "race"; options = codes "threads" ∷ []; takes_word = false }
-
-abbrev pub threads_of : Values → Option ℕ
-threads_of values = option_and_then (number_in 1 8) (values (Some (codes "threads")))
 
 -- ---- `gen` and `drive`, with a load
 

@@ -9,8 +9,9 @@ mod command;
 mod line;
 mod number;
 mod read;
+mod values;
 
-pub use command::{Command, WordFault};
+pub use command::{Command, Draws, WordFault};
 pub use read::command_of;
 
 #[cfg(test)]

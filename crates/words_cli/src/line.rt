@@ -64,6 +64,9 @@ pub(crate) fn command_line<'a>(alloc: Global) -> Result<Command<'a>, AllocError>
     ensures { IfOk result (λ c. app_of c ≡ line_app built_forms) }
 {
     let no_options: [&'a str; 0] = [];
-    let run = with_form(alloc, bare(alloc), "run", &no_options, false)?;
-    with_form(alloc, run, "hot", &no_options, true)
+    let run = with_form(alloc, bare(alloc), "run", &["draws", "number"], false)?;
+    let race = with_form(alloc, run, "race", &["threads"], false)?;
+    let recover = with_form(alloc, race, "recover", &no_options, false)?;
+    let hot = with_form(alloc, recover, "hot", &no_options, true)?;
+    with_form(alloc, hot, "layout", &no_options, true)
 }

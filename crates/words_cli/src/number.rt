@@ -24,7 +24,7 @@ fn is_number(text: &str) -> bool
 
 fn within(number: u64, least: u64, most: u64) -> Option<u64>
     ensures value { result ≡ cond (nat_le least number && nat_le number most) (Some number) None }
-    ensures most { IfSome result (λ n. n ≤ most) }
+    ensures range { IfSome result (λ n. (least ≤ n) × (n ≤ most)) }
 {
     if least <= number && number <= most {
         Some(number)
@@ -36,7 +36,7 @@ fn within(number: u64, least: u64, most: u64) -> Option<u64>
 /// The number that the text writes, where it is one from `least` to `most`.
 pub(crate) fn number_in(text: &str, least: u64, most: u64) -> Option<u64>
     ensures value { result ≡ number_in least most text.now }
-    ensures most { IfSome result (λ n. n ≤ most) }
+    ensures range { IfSome result (λ n. (least ≤ n) × (n ≤ most)) }
 {
     if !is_number(text) {
         return None;

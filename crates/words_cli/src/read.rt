@@ -1,24 +1,21 @@
 //! The words, read.
 
-ghost use Rattle.std.specs.Prelude.{◌≡◌, ◌≢◌, Err, IfOk, IsUtf8, None, option_map, option_and_then};
+ghost use Rattle.std.specs.Prelude.{◌≡◌, ◌≢◌, Err, IfOk, IfSome, IsUtf8, None, option_map, option_and_then};
 ghost use Rattle.std.specs.List.{AllByRecursion};
-ghost use Rattle.clap.specs.Words.{app_of, first_of, found_of, kind_of, rows_of, subcommand_rows_of};
+ghost use Rattle.clap.specs.Words.{app_of, kind_of, subcommand_rows_of};
 ghost use Rattle.words_cli.specs.Answers.{Answers};
-ghost use Rattle.words_cli.specs.ClapLine.{line_app, line_rows, values_in, word_id};
+ghost use Rattle.words_cli.specs.ClapLine.{line_app, line_rows, values_in};
 ghost use Rattle.words_cli.specs.Forms.{line_of};
-ghost use Rattle.words_cli.specs.Numbers.{number_in};
-ghost use Rattle.words_cli.specs.Table.{built_forms, command_by, command_of, count_of, most_hot};
+ghost use Rattle.words_cli.specs.Ranges.{InRange};
+ghost use Rattle.words_cli.specs.Table.{built_forms, command_by, command_of};
 
 use crate::command::{Command, WordFault};
-use crate::line::{WORD, command_line};
-use crate::number::number_in;
+use crate::line::command_line;
+use crate::values::command_by;
 use clap::error::ErrorKind;
 use clap::{ArgMatches, Command as Line, Error};
 use port_io::Word;
 use std::alloc::Global;
-
-/// The most tuples that `hot` takes.
-const MOST_HOT: u64 = 65_536;
 
 /// Looks at each word, which is a text.
 fn look_at(words: &[Word])
@@ -64,49 +61,10 @@ fn matches_of<'a>(alloc: Global, words: &'a [Word]) -> Result<ArgMatches<'a>, Wo
     }
 }
 
-/// A number of tuples.
-fn count_in(text: &str) -> Option<u32>
-    ensures { result ≡ number_in 0 most_hot text.now }
-{
-    match number_in(text, 0, MOST_HOT) {
-        Some(count) => Some(count as u32),
-        None => None,
-    }
-}
-
-/// How many tuples are wanted, by the word that stands by itself.
-fn count_of(given: &ArgMatches) -> Option<u32>
-    ensures { result ≡ count_of (first_of word_id (rows_of (found_of given.now))) }
-{
-    match given.get_str(WORD) {
-        Some(text) => count_in(text),
-        None => None,
-    }
-}
-
-fn hot(count: Option<u32>) -> Option<Command>
-    ensures { result ≡ option_map Command.Hot count }
-{
-    match count {
-        Some(k) => Some(Command::Hot { k }),
-        None => None,
-    }
-}
-
-/// What the command of this name makes of what it was given.
-fn command_by(name: &str, given: &ArgMatches) -> Option<Command>
-    ensures { result ≡ command_by name.now (values_in (rows_of (found_of given.now))) }
-{
-    match name {
-        "run" => Some(Command::Run),
-        "hot" => hot(count_of(given)),
-        _ => None,
-    }
-}
-
 /// The command that the matches name.
 fn command_in(matches: &ArgMatches) -> Option<Command>
-    ensures { result ≡ option_and_then (λ s. command_by s.0 (values_in s.1)) (subcommand_rows_of matches.now) }
+    ensures ranges { IfSome result InRange }
+    ensures value { result ≡ option_and_then (λ s. command_by s.0 (values_in s.1)) (subcommand_rows_of matches.now) }
 {
     match matches.subcommand() {
         Some(found) => command_by(found.0, found.1),
@@ -128,7 +86,8 @@ fn answer(command: Option<Command>) -> Result<Command, WordFault>
 /// # Errors
 /// `Usage` exactly where the words are no command; `NoMemory`.
 pub fn command_of(alloc: Global, words: &[Word]) -> Result<Command, WordFault>
-    ensures { Answers (command_of words.now) result }
+    ensures value { Answers (command_of words.now) result }
+    ensures ranges { IfOk result InRange }
 {
     match matches_of(alloc, words) {
         Ok(matches) => answer(command_in(&matches)),

@@ -1,0 +1,13 @@
+-- The ranges of a command's numbers.
+use Rattle.std.specs.Prelude.{◌≤◌, Some, None}
+use Rattle.words_cli.specs.Table.{most_draws, most_threads, most_tuples}
+use Rattle.words_cli.specs.declared.command.Command.{Command}
+use Rattle.words_cli.specs.declared.command.Command.TheVariants.{Run, Race, Recover, Hot, Layout}
+
+abbrev pub InRange : Command → Type 0
+InRange (Run None) = Unit {0}
+InRange (Run (Some draws)) = draws.count ≤ most_draws
+InRange (Race threads) = (1 ≤ threads) × (threads ≤ most_threads)
+InRange Recover = Unit {0}
+InRange (Hot k) = k ≤ most_tuples
+InRange (Layout k) = k ≤ most_tuples
