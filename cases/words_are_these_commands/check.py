@@ -1,28 +1,57 @@
-"""Compares which word lists the program takes, and with which number, with a reader that is written here on its own."""
+"""Compares which word lists the program takes, and as which command, with a reader that is written here on its own."""
 import os
 import subprocess
 import sys
 import tempfile
 
-# the commands that are built: the options of each, and whether one word stands by itself
-BUILT = {b"run": ([], False), b"hot": ([], True)}
-MOST = 65536
+# the commands: the options of each, with the range of its number, and the range of the word that stands by itself, where one does
+ANY = (0, 2**64 - 1)
+TUPLES_WANTED = (0, 65536)
+BUILT = {
+    b"run": ({b"draws": (0, 1000000), b"number": ANY}, None),
+    b"race": ({b"threads": (1, 8)}, None),
+    b"recover": ({}, None),
+    b"hot": ({}, TUPLES_WANTED),
+    b"layout": ({}, TUPLES_WANTED),
+}
 SESSION = (
     b'{"shape":{"stages":2,"arrays":1,"cells":2,"split":1,"hosts":2},"tuples":[[0,10],[1,20],[2,30]],'
     b'"layout":[[0,0,0,0],[1,1,0,0]],"tries":2,"clients":[[[["add",2,5,[]]]]],"schedule":""}'
 )
 TUPLES = 3
-NAMES = [b"run", b"hot", b"race", b"gen", b"drive", b"help", b"rn", b"Run", b"", b"-", b"--", b"--help", b"--version", b"-h", b"-V", b"--run"]
-TAILS = [
+NAMES = [
+    b"run", b"race", b"recover", b"hot", b"layout", b"gen", b"drive", b"help", b"rn", b"Run", b"", b"-", b"--", b"--help", b"--version", b"-h", b"-V", b"--run",
+    b"rec", b"recover ", b"run\xff",
+]
+WORDS = [
     [], [b"5"], [b"003"], [b"0"], [b"65536"], [b"65537"], [b"-3"], [b"+3"], [b"--"], [b"--", b"--"], [b"--", b"3"], [b"3", b"--"], [b"--", b"-3"],
     [b"--", b"3", b"4"], [b"3", b"4"], [b"-"], [b"--", b"-"], [b""], [b"3x"], [b" 3"], [b"3 "], [b"0x3"], [b"3.0"], [b"\xd9\xa3"], [b"\xff"], [b"3\xff"],
     [b"0" * 19 + b"3"], [b"0" * 20 + b"3"], [b"9" * 20], [b"9" * 21], [b"18446744073709551616"], [b"18446744073709551619"], [b"4294967299"],
-    [b"--draws", b"1"], [b"--draws=1"], [b"--draws="], [b"--draws=1=2"], [b"--draws"], [b"--draws", b"--"], [b"--draws", b"-1"],
-    [b"--draws", b"1", b"--draws", b"1"], [b"--draws=1", b"--number=1"], [b"--number", b"5", b"--draws", b"10"], [b"--number", b"1", b"--number", b"1"],
-    [b"--threads", b"4"], [b"--threads=4", b"--threads=4"], [b"--hot", b"3"], [b"--k=3"], [b"--K=3"], [b"--K", b"3"], [b"--=3"], [b"--=", b"3"], [b"---3"],
-    [b"--h"], [b"--help"], [b"help"], [b"-h"], [b"-V"], [b"--version"], [b"--customers", b"5"], [b"smallbank"], [b"ycsb", b"--customers", b"5"],
-    [b"smallbank", b"--customers", b"5"], [b"run"], [b"hot", b"3"], [b"3", b"run"],
+    [b"--=3"], [b"--=", b"3"], [b"---3"], [b"--h"], [b"--help"], [b"help"], [b"-h"], [b"-V"], [b"--version"], [b"--k=3"], [b"--K=3"], [b"--K", b"3"],
+    [b"--hot", b"3"], [b"--customers", b"5"], [b"smallbank"], [b"ycsb", b"--customers", b"5"], [b"smallbank", b"--customers", b"5"],
+    [b"run"], [b"hot", b"3"], [b"3", b"run"],
 ]
+# what stands for the value of an option, at the edges of every range
+VALUES = [
+    b"", b"0", b"1", b"8", b"9", b"007", b"1=2", b"=1", b"-", b"1000000", b"1000001", b"257", b"264", b"4294967297", b"0" * 19 + b"8", b"0" * 20 + b"8",
+    b"18446744073709551615", b"18446744073709551616", b"9" * 21, b"1 ", b"+1", b"one", b"1\xff", b"\xef\xbc\x91",
+]
+OPTIONS = [b"draws", b"number", b"threads"]
+
+
+def tails():
+    """The lists of words behind the command's name."""
+    yield from WORDS
+    for option in OPTIONS:
+        joined = b"--" + option + b"="
+        alone = b"--" + option
+        yield from ([joined + value] for value in VALUES)
+        yield from ([alone], [alone, b"--"], [alone, b"-1"], [alone, b"1"], [alone, b"-"], [b"--", alone, b"1"], [b"-" + option, b"1"])
+        yield from ([joined + b"1", joined + b"1"], [alone, b"1", joined + b"2"], [alone[:-1] + b"=1"], [alone + b"x=1"], [alone.upper(), b"1"])
+        yield from ([joined + b"1", b"--"], [joined + b"1", b"--", b"5"], [joined + b"1", b"5"], [b"5", joined + b"1"])
+    for value in VALUES:
+        yield from ([b"--draws=" + value, b"--number=1"], [b"--number=" + value, b"--draws", b"1"], [b"--draws", b"3", b"--number", value])
+    yield from ([b"--number=1", b"--draws=1", b"--number=1"], [b"--draws=1", b"--number=1", b"--threads=1"], [b"--draws", b"--number", b"1"])
 
 
 def is_text(word):
@@ -33,12 +62,17 @@ def is_text(word):
         return False
 
 
-def read(words):
-    """The name of the command and the word that stands by itself, or None where the words are no command."""
-    if not words or not all(map(is_text, words)) or words[0] not in BUILT:
+def number_in(text, least_most):
+    """The number that the text writes, where it is one of the range."""
+    if not 1 <= len(text) <= 20 or any(byte not in b"0123456789" for byte in text):
         return None
-    options, takes_word = BUILT[words[0]]
-    given, alone, rest = {}, [], list(words[1:])
+    least, most = least_most
+    return int(text) if least <= int(text) <= most else None
+
+
+def split(options, words):
+    """The values of the options, and the words that stand by themselves, or None."""
+    given, alone, rest = {}, [], list(words)
     while rest:
         word = rest.pop(0)
         if word == b"--":
@@ -56,14 +90,31 @@ def read(words):
             return None
         else:
             alone.append(word)
-    if len(alone) != (1 if takes_word else 0):
+    return given, alone
+
+
+def read(words):
+    """The name of the command and the number of its word, or None where the words are no command."""
+    if not words or not all(map(is_text, words)) or words[0] not in BUILT:
         return None
-    if not takes_word:
-        return words[0], None
-    digits = alone[0]
-    if not 1 <= len(digits) <= 20 or digits.strip(b"0123456789") or int(digits) > MOST:
+    options, word_range = BUILT[words[0]]
+    parts = split(options, words[1:])
+    if parts is None or len(parts[1]) != (0 if word_range is None else 1):
         return None
-    return words[0], int(digits)
+    given, alone = parts
+    if len(given) == 1 and words[0] == b"run" or not given and words[0] == b"race":
+        return None
+    if any(number_in(value, options[name]) is None for name, value in given.items()):
+        return None
+    number = number_in(alone[0], word_range) if alone else None
+    return None if alone and number is None else (words[0], number)
+
+
+def front_of(name, number):
+    """How the output of the command begins."""
+    if number is not None:
+        return b"%s %d\n" % (name, min(number, TUPLES))
+    return b"order 0\nregisters 2\n" if name == b"recover" else b"replies 1\n"
 
 
 def fault_at(program, words, folder):
@@ -71,13 +122,12 @@ def fault_at(program, words, folder):
     wanted = read(words)
     if wanted is None:
         return None if ran.returncode == 2 and not ran.stdout else f"status {ran.returncode}, and not usage"
-    front = b"replies 1\n" if wanted[0] == b"run" else b"%s %d\n" % (wanted[0], min(wanted[1], TUPLES))
-    return None if ran.returncode == 0 and ran.stdout.startswith(front) else f"status {ran.returncode}, output {ran.stdout[:40]!r}"
+    return None if ran.returncode == 0 and ran.stdout.startswith(front_of(*wanted)) else f"status {ran.returncode}, output {ran.stdout[:40]!r}"
 
 
 def main():
     program = os.path.abspath(sys.argv[1])
-    lists = [[]] + [[name, *tail] for name in NAMES[:6] for tail in TAILS] + [[name, *tail] for name in NAMES[6:] for tail in TAILS[:3]]
+    lists = [[]] + [[name, *tail] for name in NAMES[:5] for tail in tails()] + [[name, *tail] for name in NAMES[5:] for tail in WORDS[:9]]
     with tempfile.TemporaryDirectory() as folder:
         for words in lists:
             fault = fault_at(program, words, folder)
