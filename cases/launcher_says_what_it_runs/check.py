@@ -7,7 +7,7 @@ import tempfile
 sys.path.insert(0, str(pathlib.Path(__file__).resolve().parent.parent))
 from stand_in import expect, run, script, set_up
 
-LINE = "p4db: no proved program is here yet; answering from an unproved build, in about half a minute (./prove makes the proved one)\n"
+LINE = "p4db: no proved program is here yet; answering from an unproved build, in a minute or two (./prove makes the proved one)\n"
 # what the toolchain writes of its own begins as there
 TRY = '#!/bin/sh\ncat\necho "p4db: a note" >&2\necho "checked: ended status=7" >&2\necho "run=ended status=7 runners=1 proved=no" >&2\nexit 7\n'
 BROKEN = '#!/bin/sh\necho "error: a source that is wrong" >&2\nexit 1\n'
