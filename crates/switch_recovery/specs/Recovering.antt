@@ -1,12 +1,12 @@
 -- Recovering from the logs themselves.
-use Rattle.std.specs.Prelude.{◌≡◌, ℕ, ◌+◌, ◌*◌, ◌<◌, List, [], ◌∷◌, Option, None, Some, Result, Ok, Err, ⊤, IfSome, length, if◌then◌else◌}
+use Rattle.std.specs.Prelude.{◌≡◌, ℕ, ◌+◌, ◌*◌, ◌<◌, List, [], ◌∷◌, Option, None, Some, Result, Ok, Err, ⊤, IsSome, length, if◌then◌else◌}
 use Rattle.catalogue.specs.Plan.{Plan, hot_cells}
 use Rattle.switch_packet.specs.Packets.{PlainLog}
 use Rattle.placement_model.specs.Placements.{Task, IsPlacement}
-use Rattle.intent_log.specs.Grammar.{IsLog, IsDamagedAt}
+use Rattle.intent_log.specs.Grammar.{IsLog}
 use Rattle.intent_log.specs.declared.fault.LogFault.{LogFault}
 use Rattle.intent_log.specs.declared.fault.LogFault.TheVariants as log
-use Rattle.intent_log.specs.Told.{ReadWithin}
+use Rattle.intent_log.specs.Told.{ReadWithin, HasRead}
 use Rattle.switch_recovery.specs.Restoring.{bad_intent, IsRestored}
 use Rattle.switch_recovery.specs.declared.recovered.Recovered.{Recovered}
 use Rattle.switch_recovery.specs.declared.recovered.RecoveryFault.{RecoveryFault}
@@ -39,24 +39,30 @@ pub record ReadAll (plan : Plan) (told : ℕ → Option (List ℕ)) (holds : Lis
 abbrev pub IsRecovered : Plan → Recovered → List PlainLog → Type 0
 IsRecovered plan recovered logs = (bad_intent plan logs ≡ None) × IsRestored plan logs recovered.restored × (recovered.torn.0 ≡ torn_bits logs)
 
+-- the logs of the clients below this one were read, and its own has this fault
+abbrev pub StopsAt : Plan → (ℕ → Option (List ℕ)) → ℕ → LogFault → Type 0
+StopsAt plan told client fault = ReadBefore plan told client × HasRead client (told client) (Err fault)
+
 -- what recovering answers, unless memory ran out
 abbrev pub Recovers : Plan → (ℕ → Option (List ℕ)) → Result Recovered RecoveryFault → Type 0
 Recovers plan told (Ok recovered) = ReadAll plan told (IsRecovered plan recovered)
-Recovers plan told (Err (LogFailed client)) = ReadBefore plan told client
-Recovers plan told (Err (LogTooLong client)) = ReadBefore plan told client × IfSome (told client) (λ log. 16777216 < length log)
-Recovers plan told (Err (LogDamaged client at)) = ReadBefore plan told client × ReadWithin (told client) (λ bytes. IsDamagedAt client bytes at)
+Recovers plan told (Err (LogFailed client)) = StopsAt plan told client log.Failed
+Recovers plan told (Err (LogTooLong client)) = StopsAt plan told client log.TooLong
+Recovers plan told (Err (LogDamaged client at)) = StopsAt plan told client (log.Damaged at)
 Recovers plan told (Err (BadIntent client seq)) = ReadAll plan told (λ logs. bad_intent plan logs ≡ Some (client, seq))
 Recovers plan told (Err NoOrder) = ReadAll plan told (λ logs. (bad_intent plan logs ≡ None) × ((order : List Task) → IsPlacement logs (hot_cells plan) order → ⊥))
 Recovers plan told (Err NoMemory) = ⊤
 
--- why not all logs were read, and of which client
-abbrev pub StopsAt : Plan → (ℕ → Option (List ℕ)) → RecoveryFault → Type 0
-StopsAt plan told (LogFailed client) = ReadBefore plan told client
-StopsAt plan told (LogTooLong client) = ReadBefore plan told client × IfSome (told client) (λ log. 16777216 < length log)
-StopsAt plan told (LogDamaged client at) = ReadBefore plan told client × ReadWithin (told client) (λ bytes. IsDamagedAt client bytes at)
-StopsAt plan told (BadIntent client seq) = ⊥
-StopsAt plan told NoOrder = ⊥
-StopsAt plan told NoMemory = ⊤
+-- Recovery is owed: the rack tells the log of each client, none is too long or damaged, no intent names a place outside the layout,
+-- and some order of the packets fits.
+pub record IsRecoverable (plan : Plan) (told : ℕ → Option (List ℕ)) : Type 0 where
+  pub tells : (client : ℕ) → client < length plan.clients → IsSome (told client)
+  pub logs : List PlainLog
+  pub count : length logs ≡ length plan.clients
+  pub read : AreRead told 0 logs
+  pub inside : bad_intent plan logs ≡ None
+  pub order : List Task
+  pub fits : IsPlacement logs (hot_cells plan) order
 
 -- a read failed
 abbrev pub IsFailure : RecoveryFault → Type 0

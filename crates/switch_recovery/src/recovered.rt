@@ -1,11 +1,11 @@
 //! Recovering from the logs themselves.
 
-ghost use Rattle.std.specs.Prelude.{◌≡◌, ◌+◌, ◌<◌, ◌≤◌, length, map, IfOk, IfErr, IsTrue, if◌then◌else◌};
+ghost use Rattle.std.specs.Prelude.{◌≡◌, ◌≤◌, Err, length, map, IfOk, IfErr, IsTrue, if◌then◌else◌};
 ghost use Rattle.catalogue.specs.PlanOf.{plan_of};
-ghost use Rattle.port_io.specs.Cause.{HasCause};
+ghost use Rattle.port_io.specs.Cause.{Rose, HasCause};
 ghost use Rattle.port_io.specs.LogRack.{AllStay};
 ghost use Rattle.switch_packet.specs.Packets.{plain_log};
-ghost use Rattle.switch_recovery.specs.Recovering.{AreRead, torn_bits, Recovers, StopsAt, HasFailed, of_client};
+ghost use Rattle.switch_recovery.specs.Recovering.{AreRead, torn_bits, Recovers, IsRecoverable, HasFailed, of_client};
 ghost use Rattle.switch_recovery.specs.declared.recovered.RecoveryFault.TheVariants.{NoMemory};
 
 use crate::restored::{RestoreFault, Restored, restore};
@@ -64,6 +64,10 @@ pub fn recover<L: LogRack>(
     ensures unchanged { AllStay (L.told rack.old) (L.told rack.new) }
     ensures keeps_on { IsTrue (L.keeps rack.old) → IsTrue (L.keeps rack.new) }
     ensures cause { HasCause (L.faults rack.old) (L.faults rack.new) (HasFailed result) }
+
+    // The switch is recovered wherever the logs allow it, unless a read failed or memory ran out.
+    ensures complete { IsRecoverable (plan_of session.now) (L.told rack.old) → (Rose (L.faults rack.old) (L.faults rack.new) → ⊥)
+        → IfErr result (λ fault. fault ≡ NoMemory) }
 {
     let views = read_logs(alloc, rack, session)?;
     let torn = torn_of(views.as_slice(), session.clients());
@@ -83,7 +87,7 @@ fn read_logs<L: LogRack>(
 ) -> Result<Vec<LogView>, RecoveryFault>
     ensures count { IfOk result (λ views. length views.items ≡ length (plan_of session.now).clients) }
     ensures read { IfOk result (λ views. AreRead (L.told rack.old) 0 (map plain_log views.items)) }
-    ensures stopped { IfErr result (λ fault. StopsAt (plan_of session.now) (L.told rack.old) fault) }
+    ensures stopped { IfErr result (λ fault. Recovers (plan_of session.now) (L.told rack.old) (Err fault)) }
     ensures unchanged { AllStay (L.told rack.old) (L.told rack.new) }
     ensures keeps_on { IsTrue (L.keeps rack.old) → IsTrue (L.keeps rack.new) }
     ensures cause { HasCause (L.faults rack.old) (L.faults rack.new) (HasFailed result) }
