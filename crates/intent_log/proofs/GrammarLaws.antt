@@ -1,12 +1,12 @@
 -- Bytes say one thing.
-use Rattle.std.proofs.Common.{◌≡◌, ℕ, ◌+◌, ◌<◌, ◌≤◌, Bool, true, false, List, [], ◌∷◌, ◌++◌, length, refl, sym, ap, subst, ◌∙◌, append_assoc, arith}
+use Rattle.std.proofs.Common.{◌≡◌, ℕ, ◌+◌, ◌<◌, Bool, true, false, List, [], ◌∷◌, ◌++◌, length, refl, sym, ap, subst, ◌∙◌, append_assoc, arith}
 use Rattle.std.specs.List.{flat_map}
 use Rattle.std.proofs.lemmas.List.{append-nil, length-append}
 use Rattle.switch_packet.specs.Fronts.{IsFront}
 use Rattle.switch_packet.specs.Packets.{PlainIntent, PlainOutcome, PlainLog}
 use Rattle.switch_packet.proofs.Exactness as exact
 use Rattle.intent_log.specs.LogText.{intent_text, outcome_text, records_text, log_text}
-use Rattle.intent_log.specs.Grammar.{Record, Intended, Answered, record_text, IsRecord, no_records, with_record, with_records, FitsBehind, FitInTurn, Ends, IsLog, IsDamagedAt}
+use Rattle.intent_log.specs.Grammar.{Record, Intended, Answered, record_text, IsRecord, no_records, with_record, with_records, FitsBehind, FitInTurn, Ends, IsLog}
 use Rattle.intent_log.specs.Reading.{record_at}
 use Rattle.intent_log.specs.Laws.{LogsDiffer, LogsAreWhole, DamageHasOnePlace, LogsAreTexts, LogsGoOn}
 use Rattle.intent_log.proofs.RecordCodecs.{record_codec, text_some}

@@ -1,8 +1,7 @@
 -- How far reading a log has come, and what it means where it stops.
-use Rattle.std.proofs.Common.{◌≡◌, ℕ, ◌+◌, ◌<◌, Bool, true, List, [], ◌∷◌, ◌++◌, length, Result, Ok, Err, refl, sym, ap, subst, ◌∙◌, append_assoc, arith}
+use Rattle.std.proofs.Common.{◌≡◌, ℕ, ◌<◌, Bool, true, List, [], ◌∷◌, ◌++◌, length, Result, Ok, Err, refl, sym, ap, subst, ◌∙◌, append_assoc, arith}
 use Rattle.std.proofs.lemmas.List.{append-nil, length-append}
 use Rattle.switch_packet.specs.declared.fault.PacketFault.TheVariants.{Short, BadByte}
-use Rattle.switch_packet.specs.Fronts.{IsFront}
 use Rattle.switch_packet.specs.Packets.{PlainLog}
 use Rattle.switch_packet.specs.Reading.{Cursor, start}
 use Rattle.switch_packet.proofs.Codecs.{IsBytes, IsBytes-right, StopsAt, cursor}

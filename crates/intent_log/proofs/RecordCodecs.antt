@@ -1,13 +1,11 @@
 -- Records are read and spelled alike.
-use Rattle.std.proofs.Common.{◌≡◌, ℕ, ◌+◌, ◌<◌, ◌≤◌, ◌^◌, List, [], ◌∷◌, ◌++◌, length, Ok, ◌⊎◌, inl, inr, refl, sym, ap, subst, ◌∙◌, arith}
-use Rattle.std.specs.Prelude.{FitsSigned}
+use Rattle.std.proofs.Common.{◌≡◌, ℕ, ◌+◌, ◌<◌, ◌≤◌, List, [], ◌∷◌, ◌++◌, length, Ok, ◌⊎◌, inl, inr, refl, sym, subst, arith}
 use Rattle.std.specs.Int.{w32, w64, to_be_bytes}
 use Rattle.std.specs.List.{flat_map, AllByRecursion}
 use Rattle.std.proofs.lemmas.List.{append-nil}
 use Rattle.txn_model.specs.declared.pairs.Pair.{Pair}
 use Rattle.switch_packet.specs.Packets.{PlainIntent, PlainOutcome}
 use Rattle.switch_packet.specs.PacketText.{packet_text}
-use Rattle.switch_packet.specs.Reading.{Cursor}
 use Rattle.switch_packet.proofs.Codecs.{IsCodec, EachIs, byte_codec, either_codec, field_codec, bind_codec, done_codec, recast, each_codec}
 use Rattle.switch_packet.proofs.NumberCodecs.{u32_codec, u64_codec, i64_codec, zeros_codec}
 use Rattle.switch_packet.proofs.PacketCodecs.{packet_codec}

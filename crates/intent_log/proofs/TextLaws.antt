@@ -9,9 +9,7 @@ use Rattle.intent_log.specs.declared.fault.CheckFault.{CheckFault}
 use Rattle.intent_log.specs.declared.fault.CheckFault.TheVariants.{Failed, Changed}
 use Rattle.intent_log.specs.Checking.{Begins, GoesOn, EndsAt, text_if}
 use Rattle.intent_log.specs.LogText.{intent_text, outcome_text, records_text}
-use Rattle.intent_log.specs.Records.{IsOutcome}
 use Rattle.intent_log.specs.Told.{DifferAt, HasChecked}
-use Rattle.intent_log.proofs.ViewLaws.{outcome_length}
 
 -- the log begins with the records before this place
 pub record HasCompared (told : Option (List ℕ)) (is : List PlainIntent) (os : List PlainOutcome) (k at : ℕ) : Type 0 where
@@ -120,10 +118,22 @@ all_if P [] k a = tt
 all_if P (y ∷ xs) zero a = a.0
 all_if P (y ∷ xs) (suc k) a = all_if P xs k a.1
 
-pub if_fits : (o : Option PlainOutcome) (at : ℕ) → IfSome o IsOutcome → at + 272 < 2 ^ 64 → IfSome o (λ o. at + length (outcome_text o) < 2 ^ 64)
-if_fits None at v lt = tt
-if_fits (Some o) at v lt = omega (arith, outcome_length o v)
+pub if_fits : (o : Option PlainOutcome) (at : ℕ) → at + length (text_if o) < 2 ^ 64 → IfSome o (λ o. at + length (outcome_text o) < 2 ^ 64)
+if_fits None at lt = tt
+if_fits (Some o) at lt = lt
 
-pub if_length : (o : Option PlainOutcome) → IfSome o IsOutcome → length (text_if o) ≤ 272
-if_length None v = omega arith
-if_length (Some o) v = outcome_length o v
+-- ---- the places of the text
+
+-- the intent's text ends within the text, and so does its outcome's
+pub place_behind : (told : Option (List ℕ)) (is : List PlainIntent) (os : List PlainOutcome) (k at : ℕ) (i : PlainIntent) (o : Option PlainOutcome) → HasCompared told is os k at
+    → slice_get is k ≡ Some i → slice_get os k ≡ o → (at + length (intent_text i)) + length (text_if o) ≤ length (records_text is os)
+place_behind told is os k at i o c here there =
+    let rest = records_text (drop (k + 1) is) (drop (k + 1) os) in
+    omega (
+      arith,
+      c.len,
+      ap length (rest_of told is os k at i o c here there),
+      length-append c.front (intent_text i ++ (text_if o ++ rest)),
+      length-append (intent_text i) (text_if o ++ rest),
+      length-append (text_if o) rest,
+    )

@@ -1,16 +1,18 @@
 -- What the records of a log are like.
-use Rattle.std.proofs.Common.{◌≡◌, ℕ, zero, suc, ◌+◌, ◌-◌, ◌*◌, ◌<◌, ◌≤◌, ◌^◌, List, [], ◌∷◌, ◌++◌, length, map, Some, None, refl, sym, ap, subst, ◌∙◌, arith}
+use Rattle.std.proofs.Common.{◌≡◌, ℕ, ◌+◌, ◌-◌, ◌*◌, ◌<◌, ◌≤◌, ◌^◌, List, [], ◌∷◌, ◌++◌, length, Some, None, refl, sym, ap, subst, ◌∙◌, arith}
 use Rattle.std.specs.Prelude.{Option, slice_get}
 use Rattle.std.specs.List.{AllByRecursion, flat_map}
 use Rattle.std.proofs.lemmas.List.{length-append}
-use Rattle.switch_packet.specs.Packets.{PlainPacket, PlainIntent, PlainOutcome, PlainLog}
+use Rattle.switch_packet.specs.Packets.{PlainIntent, PlainOutcome, PlainLog}
 use Rattle.switch_packet.specs.PacketText.{packet_text}
 use Rattle.switch_packet.specs.Ranges.{Fits}
 use Rattle.switch_packet.proofs.LongestText.{longest_text}
 use Rattle.txn_model.specs.declared.pairs.Pair.{Pair}
-use Rattle.intent_log.specs.LogText.{intent_text, pair_text, outcome_text}
-use Rattle.intent_log.specs.Records.{IsIntent, IsPair, IsOutcome}
-use Rattle.intent_log.specs.Grammar.{Record, Intended, Answered, IsRecord, no_records, with_record, with_records, last_intent, IsAbove, FitsBehind, FitInTurn, IsLog, IsView}
+use Rattle.intent_log.specs.Laws.{ViewsCanBeWritten}
+use Rattle.intent_log.specs.LogText.{intent_text, pair_text, outcome_text, records_text}
+use Rattle.intent_log.specs.Records.{HasPairs, IsIntent, IsOutcome}
+use Rattle.intent_log.specs.Told.{CanBeWritten, TextsFit}
+use Rattle.intent_log.specs.Grammar.{Record, Intended, Answered, IsRecord, no_records, with_record, with_records, last_intent, IsAbove, FitsBehind, FitInTurn, IsView}
 
 -- there are no more intents than items up to that of the last one
 abbrev pub IsCounted : ℕ → Option PlainIntent → Type 0
@@ -84,9 +86,9 @@ few_intents client log v = few (length log.intents) (last_intent log) v.count
 
 -- ---- how long the texts are
 
-pub intent_length : (i : PlainIntent) → IsIntent i → length (intent_text i) ≤ 784
+fitting_length : (i : PlainIntent) → Fits i.packet → length (intent_text i) ≤ 784
 unfolding intent_text
-intent_length i v = let most : length (packet_text i.packet) ≤ 772 = longest_text.0 i.packet v.packet.fits in omega arith
+fitting_length i fits = let most : length (packet_text i.packet) ≤ 772 = longest_text.0 i.packet fits in omega arith
 
 pair_length : (p : Pair) → length (pair_text p) ≡ 16
 unfolding pair_text
@@ -96,6 +98,50 @@ pairs_length : (ps : List Pair) → length (flat_map pair_text ps) ≡ 16 * leng
 pairs_length [] = refl
 pairs_length (p ∷ ps) = omega (arith, pairs_length ps, pair_length p, length-append (pair_text p) (flat_map pair_text ps))
 
-pub outcome_length : (o : PlainOutcome) → IsOutcome o → length (outcome_text o) ≤ 272
+paired_length : (o : PlainOutcome) → HasPairs o → length (outcome_text o) ≤ 272
 unfolding outcome_text
-outcome_length o v = let few : length o.pairs ≤ 16 = v.count.1 in omega (arith, pairs_length o.pairs)
+paired_length o few = omega (arith, few.1, pairs_length o.pairs)
+
+-- ---- what can be written
+
+intents_within : (room : ℕ) → 784 ≤ room → (is : List PlainIntent) → AllByRecursion (λ i. Fits i.packet) is → AllByRecursion (λ i. length (intent_text i) ≤ room) is
+intents_within room le [] a = tt
+intents_within room le (i ∷ is) a = (omega (arith, fitting_length i a.0), intents_within room le is a.1)
+
+outcomes_within : (room : ℕ) → 784 ≤ room → (os : List PlainOutcome) → AllByRecursion HasPairs os → AllByRecursion (λ o. length (outcome_text o) ≤ room) os
+outcomes_within room le [] a = tt
+outcomes_within room le (o ∷ os) a = (omega (arith, paired_length o a.0), outcomes_within room le os a.1)
+
+-- the longest record that can be written has 784 bytes
+pub texts_fit : (log : PlainLog) (room : ℕ) → CanBeWritten log → 784 ≤ room → TextsFit log room
+texts_fit log room w le = record { intents = intents_within room le log.intents w.intents; outcomes = outcomes_within room le log.outcomes w.outcomes }
+
+-- a text has no more than 1056 bytes for each of its intents
+pub few_bytes : (is : List PlainIntent) (os : List PlainOutcome) → AllByRecursion (λ i. Fits i.packet) is → AllByRecursion HasPairs os → length (records_text is os) ≤ 1056 * length is
+few_bytes [] os a b = omega arith
+few_bytes (i ∷ is) [] a b = omega (arith, length-append (intent_text i) (records_text is []), fitting_length i a.0, few_bytes is [] a.1 tt)
+few_bytes (i ∷ is) (o ∷ os) a b =
+    omega (arith, length-append (intent_text i) (outcome_text o ++ records_text is os), length-append (outcome_text o) (records_text is os), fitting_length i a.0, paired_length o b.0, few_bytes is os a.1 b.1)
+
+-- ---- what some log says can be written
+
+intents_fit : (client : ℕ) (is : List PlainIntent) → AllByRecursion (λ i. IsIntent i × (i.packet.client ≡ client)) is → AllByRecursion (λ i. Fits i.packet) is
+intents_fit client [] a = tt
+intents_fit client (i ∷ is) a = (a.0.0.packet.fits, intents_fit client is a.1)
+
+outcomes_have_pairs : (os : List PlainOutcome) → AllByRecursion IsOutcome os → AllByRecursion HasPairs os
+outcomes_have_pairs [] a = tt
+outcomes_have_pairs (o ∷ os) a = (a.0.count, outcomes_have_pairs os a.1)
+
+pub views_can_be_written : ViewsCanBeWritten
+views_can_be_written client log view =
+    let v = view_is client log view in
+    let fit = intents_fit client log.intents v.intents in
+    let paired = outcomes_have_pairs log.outcomes v.outcomes in
+    record {
+      intents = fit;
+      outcomes = paired;
+      most = v.most;
+      least = v.least;
+      places = omega (arith, few_intents client log v, few_bytes log.intents log.outcomes fit paired);
+    }

@@ -1,8 +1,9 @@
 -- Laws of logs.
 use Rattle.std.specs.Prelude.{◌≡◌, ℕ, List, [], ◌++◌, false}
 use Rattle.switch_packet.specs.Packets.{PlainLog}
-use Rattle.intent_log.specs.Grammar.{Record, IsRecord, record_text, no_records, with_record, FitsBehind, Ends, IsLog, IsDamagedAt}
+use Rattle.intent_log.specs.Grammar.{Record, IsRecord, record_text, no_records, with_record, FitsBehind, Ends, IsLog, IsDamagedAt, IsView}
 use Rattle.intent_log.specs.LogText.{log_text}
+use Rattle.intent_log.specs.Told.{CanBeWritten}
 
 -- bytes say one thing at most
 abbrev pub LogsDiffer : Type 0
@@ -24,3 +25,7 @@ LogsAreTexts = (client : ℕ) (bytes : List ℕ) (log : PlainLog) → IsLog clie
 abbrev pub LogsGoOn : Type 0
 LogsGoOn = (client : ℕ) → IsLog client [] no_records × ((bytes : List ℕ) (log : PlainLog) (r : Record) → IsLog client bytes log → log.torn ≡ false → IsRecord r → FitsBehind client log r
     → IsLog client (bytes ++ record_text r) (with_record log r))
+
+-- what some log of a client says can be written
+abbrev pub ViewsCanBeWritten : Type 0
+ViewsCanBeWritten = (client : ℕ) (log : PlainLog) → IsView client log → CanBeWritten log

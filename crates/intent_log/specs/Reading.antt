@@ -1,5 +1,5 @@
 -- Reading a record from left to right, with the first fault that is met.
-use Rattle.std.specs.Prelude.{◌≡◌, ℕ, ◌==◌, ⊤, List, [], ◌∷◌, Result, Ok, Err, if◌then◌else◌}
+use Rattle.std.specs.Prelude.{◌≡◌, ℕ, ◌==◌, ⊤, Result, Ok, Err, if◌then◌else◌}
 use Rattle.txn_model.specs.declared.pairs.Pair.{Pair}
 use Rattle.switch_packet.specs.declared.fault.PacketFault.{PacketFault}
 use Rattle.switch_packet.specs.Packets.{PlainIntent, PlainOutcome, plain_intent, plain_outcome}

@@ -1,7 +1,8 @@
 -- What the calls that read a client's log say of the bytes that the rack tells.
-use Rattle.std.specs.Prelude.{◌≡◌, ◌≢◌, ℕ, ◌<◌, ◌≤◌, List, Option, Some, None, Result, Ok, Err, IfSome, MatchResult, true, ⊤, length, slice_get, take, drop}
+use Rattle.std.specs.Prelude.{◌≡◌, ◌≢◌, ℕ, ◌+◌, ◌<◌, ◌≤◌, ◌^◌, List, Option, Result, Ok, Err, IfSome, MatchResult, true, ⊤, length, slice_get, take, drop}
 use Rattle.std.specs.List.{AllByRecursion}
 use Rattle.switch_packet.specs.Packets.{PlainLog, plain_log}
+use Rattle.switch_packet.specs.Ranges.{Fits}
 use Rattle.switch_packet.specs.declared.record.LogView.{LogView}
 use Rattle.switch_packet.specs.declared.fault.PacketFault.{PacketFault}
 use Rattle.switch_packet.specs.declared.fault.PacketFault.TheVariants as packet
@@ -12,7 +13,8 @@ use Rattle.intent_log.specs.declared.fault.CheckFault.TheVariants as check
 use Rattle.intent_log.specs.declared.fault.LogFault.{LogFault}
 use Rattle.intent_log.specs.declared.fault.LogFault.TheVariants as fault
 use Rattle.intent_log.specs.Grammar.{IsLog, IsDamagedAt}
-use Rattle.intent_log.specs.LogText.{intent_text, outcome_text}
+use Rattle.intent_log.specs.LogText.{intent_text, outcome_text, log_text}
+use Rattle.intent_log.specs.Records.{HasPairs}
 
 -- the rack tells these bytes, if it tells any
 abbrev pub IsTold : Option (List ℕ) → List ℕ → Type 0
@@ -72,6 +74,15 @@ abbrev pub HasChecked : Option (List ℕ) → List ℕ → Result (Unit {0}) Che
 HasChecked told text (Ok done) = IsTold told text
 HasChecked told text (Err check.Failed) = ⊤
 HasChecked told text (Err (check.Changed at)) = IfSome told (λ log. DifferAt log text at)
+
+-- What a log's records say can be written: each packet has its fields in their ranges, each outcome 1 to 16 pairs, the last intent
+-- alone may be unanswered, and the places of the text are numbers of the program. What some log says can be written.
+pub record CanBeWritten (log : PlainLog) : Type 0 where
+  pub intents : AllByRecursion (λ i. Fits i.packet) log.intents
+  pub outcomes : AllByRecursion HasPairs log.outcomes
+  pub most : length log.outcomes ≤ length log.intents
+  pub least : length log.intents ≤ length log.outcomes + 1
+  pub places : length (log_text log) < 2 ^ 64
 
 -- each record's text has at most so many bytes
 pub record TextsFit (log : PlainLog) (room : ℕ) : Type 0 where

@@ -5,6 +5,7 @@
 //! stand in a rack, which is handed in.
 #![tactic(auto)]
 
+mod ahead;
 mod append;
 mod check;
 mod encode;
@@ -17,7 +18,7 @@ mod records;
 pub use append::{append_intent, append_outcome};
 pub use check::check_log;
 pub use fault::{CheckFault, LogFault};
-pub use laws::{logs_are_texts, logs_go_on, logs_say_one_thing};
+pub use laws::{logs_are_texts, logs_go_on, logs_say_one_thing, views_can_be_written};
 pub use read::{MOST_LOG_BYTES, read_log};
 
 #[cfg(test)]

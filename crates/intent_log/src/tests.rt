@@ -1,11 +1,14 @@
 //! What no clause says: that the calls succeed where memory is left, and the bytes of one log.
 
-ghost use Rattle.std.specs.Prelude.{◌<◌};
+ghost use Rattle.std.specs.Prelude.{◌≡◌, ◌<◌, false};
+ghost use Rattle.switch_packet.specs.Packets.{plain_log};
+ghost use Rattle.intent_log.specs.Told.{CanBeWritten};
 
 use super::*;
 use port_io::{DamagedRack, LogRack, MemRack};
 use std::alloc::Global;
 use std::test::Fail;
+use switch_packet::LogView;
 use txn_model::Pair;
 
 /// An intent of client 2: its item 1 reads one place.
@@ -80,6 +83,50 @@ fn damage_is_told_with_its_place(rt: HostRuntime) -> Result<(), Fail> {
             Ok(_) => panic!(rt; "the log is damaged"),
             Err(fault) => assert_eq!(rt; fault, LogFault::Damaged(want)),
         }
+    }
+    Ok(())
+}
+
+#[test]
+fn a_log_with_a_byte_beyond_the_limit_is_too_long(rt: HostRuntime) -> Result<(), Fail> {
+    let alloc = rt.alloc();
+    let mut rack = MemRack::of(alloc, Vec::new(alloc));
+    let zeros = [0; 65536];
+    for _ in 0..257 {
+        rack.append(alloc, 2, &zeros)?;
+    }
+    match read_log(alloc, &mut rack, 2) {
+        Ok(_) => panic!(rt; "the log is too long"),
+        Err(fault) => assert_eq!(rt; fault, LogFault::TooLong),
+    }
+    Ok(())
+}
+
+/// Compares client 2's log with what it should say.
+fn check(alloc: Global, rack: &mut MemRack, want: &LogView) -> Result<Result<(), CheckFault>, Fail>
+    requires written { CanBeWritten (plain_log want.now) }
+    requires whole { want.now.torn ≡ false }
+{
+    let mut buf = Vec::with_capacity(alloc, 784)?;
+    Ok(check_log(rack, 2, want, &mut buf))
+}
+
+#[test]
+fn the_first_change_of_a_log_is_found(rt: HostRuntime) -> Result<(), Fail> {
+    let alloc = rt.alloc();
+    let mut written = rack_with(alloc, 2, &INTENT, &OUTCOME)?;
+    let want = read_log(alloc, &mut written, 2)?;
+    assert_eq!(rt; want.torn, false);
+    let cases: [(&[u8], &[u8], Result<(), CheckFault>); 4] = [
+        (&OUTCOME, &[], Ok(())),
+        (&OUTCOME[..5], &OUTCOME[6..], Err(CheckFault::Changed(46))),
+        (&OUTCOME[..31], &[], Err(CheckFault::Changed(71))),
+        (&OUTCOME, &INTENT, Err(CheckFault::Changed(72))),
+    ];
+    for (front, rest, found) in cases {
+        let mut rack = rack_with(alloc, 2, &INTENT, front)?;
+        rack.append(alloc, 2, rest)?;
+        assert_eq!(rt; check(alloc, &mut rack, &want)?, found);
     }
     Ok(())
 }

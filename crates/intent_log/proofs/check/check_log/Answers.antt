@@ -1,31 +1,28 @@
-use Rattle.std.proofs.Common.{◌≡◌, ℕ, ◌+◌, ◌*◌, ◌<◌, ◌≤◌, ◌^◌, List, length, map, IfSome, Some, Ok, refl, sym, ap, subst, ◌∙◌, vec_capacity, arith}
+use Rattle.std.proofs.Common.{◌≡◌, ℕ, ◌≤◌, List, length, map, Ok, refl, sym, ap, subst, ◌∙◌, vec_capacity, arith}
 use Rattle.std.specs.Prelude.{Option, slice_get}
 use Rattle.std.specs.Option.{option_map}
 use Rattle.std.proofs.lemmas.List.{length-map}
-use Rattle.std.proofs.lemmas.Option.{slice_get-map, slice_get_within}
+use Rattle.std.proofs.lemmas.Option.{slice_get-map}
 use Rattle.std.proofs.lemmas.Result.{err_from_is_err_and}
 use Rattle.port_io.proofs.Causes.{ok_is_no_failure}
-use Rattle.switch_packet.specs.Packets.{PlainIntent, PlainOutcome, plain_intent, plain_outcome, plain_log}
+use Rattle.switch_packet.specs.Packets.{plain_intent, plain_outcome}
+use Rattle.switch_packet.specs.Ranges.{Fits}
+use Rattle.intent_log.specs.Ahead.{IsPieceOf}
 use Rattle.intent_log.specs.Checking.{GoesOn, text_if}
 use Rattle.intent_log.specs.LogText.{intent_text, outcome_text}
-use Rattle.intent_log.specs.Records.{IsIntent, IsOutcome}
-use Rattle.intent_log.proofs.ViewLaws.{ViewIs, view_is, few_intents, intent_length}
-use Rattle.intent_log.proofs.TextLaws.{compared_more, none_compared, intent_changed, outcome_changed, end_checked, all_get, all_if, if_fits, if_length}
+use Rattle.intent_log.specs.Records.{HasPairs}
+use Rattle.intent_log.proofs.TextLaws.{compared_more, intent_changed, outcome_changed, end_checked, all_get, all_if, if_fits, place_behind}
 use Rattle.intent_log.proofs.check.check_log.Goals as goal
 
 pub check_intent-requires-clause-intent : goal.check_intent-requires-clause-intent
 check_intent-requires-clause-intent g c =
-    let view = view_is c.args.client (plain_log c.args.want.now) c.requires.view in
     let here = slice_get-map plain_intent c.args.want.now.intents.items c.loop-k.k ∙ ap (option_map plain_intent) c.get.ensures in
-    (all_get (λ i. IsIntent i × (i.packet.client ≡ c.args.client)) _ c.loop-k.k _ view.intents here).0
+    all_get (λ i. Fits i.packet) _ c.loop-k.k _ c.requires.written.intents here
 
 pub check_intent-requires-clause-fits : goal.check_intent-requires-clause-fits
 check_intent-requires-clause-fits g c =
-    let view = view_is c.args.client (plain_log c.args.want.now) c.requires.view in
     let here = slice_get-map plain_intent c.args.want.now.intents.items c.loop-k.k ∙ ap (option_map plain_intent) c.get.ensures in
-    let is = (all_get (λ i. IsIntent i × (i.packet.client ≡ c.args.client)) _ c.loop-k.k _ view.intents here).0 in
-    let within = slice_get_within _ c.loop-k.k _ here in
-    omega (arith, intent_length _ is, few_intents _ _ view, within, c.loop-k.invariant.bound)
+    omega (arith, place_behind _ _ _ c.loop-k.k _ _ _ c.loop-k.invariant.compared here refl, c.requires.written.places)
 
 pub check_intent-requires-clause-room : goal.check_intent-requires-clause-room
 check_intent-requires-clause-room g c =
@@ -39,18 +36,14 @@ returns-in_err-at-clause-checked g c =
     rw (fault.1, fault.2) (intent_changed _ _ _ _ c.loop-k.k c.loop-k.at _ _ c.loop-k.invariant.compared (c.loop-k.invariant.stay c.args.client) here c.in_err-at.ensures.goes_on)
 
 pub check_outcome-requires-clause-outcome : goal.check_outcome-requires-clause-outcome
-check_outcome-requires-clause-outcome g c =
-    let view = view_is c.args.client (plain_log c.args.want.now) c.requires.view in
-    rw c.outcome_at.ensures (all_if IsOutcome _ c.loop-k.k view.outcomes)
+check_outcome-requires-clause-outcome g c = rw c.outcome_at.ensures (all_if HasPairs _ c.loop-k.k c.requires.written.outcomes)
 
 pub check_outcome-requires-clause-fits : goal.check_outcome-requires-clause-fits
 check_outcome-requires-clause-fits g c =
-    let view = view_is c.args.client (plain_log c.args.want.now) c.requires.view in
     let here = slice_get-map plain_intent c.args.want.now.intents.items c.loop-k.k ∙ ap (option_map plain_intent) c.get.ensures in
-    let is = (all_get (λ i. IsIntent i × (i.packet.client ≡ c.args.client)) _ c.loop-k.k _ view.intents here).0 in
-    let within = slice_get_within _ c.loop-k.k _ here in
-    rw c.outcome_at.ensures
-    (if_fits _ c.in_ok-at.at (all_if IsOutcome _ c.loop-k.k view.outcomes) (omega (arith, intent_length _ is, few_intents _ _ view, within, c.loop-k.invariant.bound, c.in_ok-at.ensures.goes_on.0)))
+    let outcomes = map plain_outcome c.args.want.now.outcomes.items in
+    let behind = place_behind _ _ _ c.loop-k.k _ _ _ c.loop-k.invariant.compared here refl in
+    rw c.outcome_at.ensures (if_fits (slice_get outcomes c.loop-k.k) c.in_ok-at.at (omega (arith, behind, c.requires.written.places, c.in_ok-at.ensures.goes_on.0)))
 
 pub check_outcome-requires-clause-room : goal.check_outcome-requires-clause-room
 check_outcome-requires-clause-room g c =
@@ -69,19 +62,16 @@ returns-in_err-at-2-clause-checked g c =
 
 pub loop-k-preserved : goal.loop-k-preserved
 loop-k-preserved g c =
-    let view = view_is c.args.client (plain_log c.args.want.now) c.requires.view in
     let here = slice_get-map plain_intent c.args.want.now.intents.items c.loop-k.k ∙ ap (option_map plain_intent) c.get.ensures in
-    let is = (all_get (λ i. IsIntent i × (i.packet.client ≡ c.args.client)) _ c.loop-k.k _ view.intents here).0 in
     let stay = c.in_ok-at.ensures.unchanged c.args.client ∙ c.loop-k.invariant.stay c.args.client in
     let first = subst (λ (t : Option (List ℕ)). GoesOn t c.loop-k.at (intent_text (plain_intent c.get.result.now)) (Ok c.in_ok-at.at)) (c.loop-k.invariant.stay c.args.client) c.in_ok-at.ensures.goes_on in
     let there = c.outcome_at.ensures in
     let goes = rw there at c.in_ok-at-2.ensures.goes_on in
     let outcomes = map plain_outcome c.args.want.now.outcomes.items in
     let second = subst (λ (t : Option (List ℕ)). GoesOn t c.in_ok-at.at (text_if (slice_get outcomes c.loop-k.k)) (Ok c.in_ok-at-2.at)) stay goes in
-    let short = if_length (slice_get outcomes c.loop-k.k) (all_if IsOutcome outcomes c.loop-k.k view.outcomes) in
     record {
       compared = compared_more _ _ _ c.loop-k.k c.loop-k.at _ _ c.in_ok-at.at c.in_ok-at-2.at c.loop-k.invariant.compared here refl first.0 second.0 first.1 second.1;
-      bound = omega (arith, intent_length (plain_intent c.get.result.now) is, short, first.0, second.0, c.loop-k.invariant.bound);
+      ahead = subst (λ (t : Option (List ℕ)). IsPieceOf t c.check_outcome.new.ahead) stay c.in_ok-at-2.ensures.ahead;
       room = c.in_ok-at-2.ensures.buf ∙ c.in_ok-at.ensures.buf ∙ c.loop-k.invariant.room;
       stay = λ client. c.in_ok-at-2.ensures.unchanged client ∙ c.in_ok-at.ensures.unchanged client ∙ c.loop-k.invariant.stay client;
       keeps_on = λ k. c.in_ok-at-2.ensures.keeps_on (c.in_ok-at.ensures.keeps_on (c.loop-k.invariant.keeps_on k));
