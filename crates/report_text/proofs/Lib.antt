@@ -1,3 +1,4 @@
 pub mod RowsThere
 pub mod ToldLaws
 pub mod Refusals
+pub mod RecoveredLaws

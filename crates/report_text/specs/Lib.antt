@@ -5,3 +5,4 @@ pub mod ReportText
 pub mod RunReport
 pub mod Told
 pub mod Refused
+pub mod Recovered

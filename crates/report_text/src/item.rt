@@ -61,7 +61,8 @@ pub(crate) fn push_lost(text: &mut String, client: u8, seq: u32) -> Result<(), N
     Ok(())
 }
 
-fn push_pairs(text: &mut String, pairs: &[Pair]) -> Result<(), NoMemory>
+/// Appends each pair after a space. After `NoMemory` a part of that may have been appended.
+pub(crate) fn push_pairs(text: &mut String, pairs: &[Pair]) -> Result<(), NoMemory>
     ensures { OnOk result (string_bytes text.new ≡ string_bytes text.old ++ pairs_text pairs.now) }
 {
     for pair in pairs {
