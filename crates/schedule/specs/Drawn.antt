@@ -1,11 +1,10 @@
 -- Drawn schedules.
 use Rattle.std.specs.Prelude.{ℕ, zero, suc, ◌+◌, ◌*◌, List, [], ◌∷◌, ◌++◌, map, length, slice_index_or}
 use Rattle.std.specs.List.{range_with_len}
-use Rattle.rand_core.specs.Stream.{Stream}
 use Rattle.catalogue.specs.Plan.{Plan}
 use Rattle.catalogue.specs.declared.actor.Actor.{Actor}
 use Rattle.catalogue.specs.declared.actor.Actor.TheVariants.{Client, Port, Stage, Recover}
-use Rattle.schedule.specs.Dice.{draw}
+use Rattle.schedule.specs.Dice.{Words, draw}
 
 -- the actors of a session: its clients, their ports, its stages, and recovery
 abbrev pub actors_of : Plan → List Actor
@@ -18,7 +17,7 @@ abbrev pub actor_at : Plan → ℕ → Actor
 actor_at plan place = slice_index_or (actors_of plan) place Recover
 
 -- as many actors as are asked for, each at a drawn place of that list
-abbrev pub drawn : Plan → ℕ → Stream → List Actor
+abbrev pub drawn : Plan → ℕ → Words → List Actor
 drawn plan zero words = []
 drawn plan (suc count) words =
     let place = draw (2 * length plan.clients + plan.shape.stages + 1) words in

@@ -56,3 +56,23 @@ fn words_name_these_actors(rt: HostRuntime) -> Result<(), Fail> {
     }
     Ok(())
 }
+
+#[test]
+fn draws_repeat(rt: HostRuntime) -> Result<(), Fail> {
+    let session = session(rt.alloc())?;
+    let first = drawn(rt.alloc(), &session, 7, 3)?;
+    let second = drawn(rt.alloc(), &session, 7, 3)?;
+    assert_eq!(rt; first.len(), 3);
+    assert!(rt; first.as_slice() == second.as_slice());
+    Ok(())
+}
+
+#[test]
+fn keys_fall_among_the_hot_ones(rt: HostRuntime) {
+    let mut dice = Dice::of(7);
+    assert!(rt; dice.draw(6) < 6);
+    assert!(rt; dice.key(10, 3, 100) < 3);
+    assert!(rt; dice.key(10, 3, 0) >= 3);
+    assert!(rt; dice.key(10, 0, 100) < 10);
+    assert!(rt; dice.key(10, 10, 0) < 10);
+}
