@@ -1,5 +1,5 @@
 -- The commands that aren't built yet: their forms, and what their options say.
-use Rattle.std.specs.Prelude.{ℕ, ◌*◌, ◌&&◌, true, false, List, [], ◌∷◌, codes, nat_le, Option, Some, None, option_map, option_and_then, is_none, if◌then◌else◌}
+use Rattle.std.specs.Prelude.{ℕ, ◌*◌, ◌&&◌, true, List, [], ◌∷◌, codes, nat_le, Option, Some, None, option_map, option_and_then, is_none, if◌then◌else◌}
 use Rattle.std.specs.Str.{bytes_eq}
 use Rattle.words_cli.specs.Words.{Text, Place}
 use Rattle.words_cli.specs.Forms.{Form}
@@ -39,9 +39,9 @@ pub data Load : Type 0 where
   -- the keys are records; operations of a script, and their mix
   Ycsb : Size → ℕ → Mix → Load
 
--- the number that the option has, or this one where it isn't given
+-- the number that the option has, or this other one where it isn't given; it is one from `least` to `most`
 abbrev pub number_or : ℕ → ℕ → ℕ → Option Text → Option ℕ
-number_or other least most None = Some other
+number_or other least most None = if nat_le least other && nat_le other most then Some other else None
 number_or other least most (Some text) = number_in least most text
 
 abbrev pub mix_or : Option Text → Option Mix
