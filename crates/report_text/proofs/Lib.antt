@@ -2,3 +2,4 @@ pub mod RowsThere
 pub mod ToldLaws
 pub mod Refusals
 pub mod RecoveredLaws
+pub mod SummaryLaws

@@ -86,11 +86,11 @@ range_more : (a n : ℕ) → range_with_len a (suc n) ≡ range_with_len a n ++ 
 range_more a zero = ap (λ (k : ℕ). k ∷ []) {x = a} {y = a + 0} (omega arith)
 range_more a (suc n) = ap (λ (l : List ℕ). a ∷ l) (range_more (a + 1) n) ∙ ap (λ (k : ℕ). a ∷ (range_with_len (a + 1) n ++ k ∷ [])) {x = (a + 1) + n} {y = a + suc n} (omega arith)
 
-pub one_more : (f : ℕ → List EndedItem) (a n k : ℕ) → k ≡ a + n → flat_map f (range_with_len a (n + 1)) ≡ flat_map f (range_with_len a n) ++ f k
-one_more f a n k is =
+pub one_more : {X : Type 0} (f : ℕ → List X) (a n k : ℕ) → k ≡ a + n → flat_map f (range_with_len a (n + 1)) ≡ flat_map f (range_with_len a n) ++ f k
+one_more {X} f a n k is =
     ap (λ (m : ℕ). flat_map f (range_with_len a m)) {x = n + 1} {y = suc n} (omega arith)
     ∙ ap (flat_map f) (range_more a n ∙ ap (λ (m : ℕ). range_with_len a n ++ m ∷ []) (sym is))
-    ∙ flat_map-append f (range_with_len a n) (k ∷ []) ∙ ap (λ (l : List EndedItem). flat_map f (range_with_len a n) ++ l) (append-nil (f k))
+    ∙ flat_map-append f (range_with_len a n) (k ∷ []) ∙ ap (λ (l : List X). flat_map f (range_with_len a n) ++ l) (append-nil (f k))
 
 -- one entry more
 pub entry_more : (h : History) (i : ℕ) (e : HistoryEntry) (old now new : List ℕ) → slice_get h i ≡ Some e → now ≡ old ++ flat_map entry_line (map (λ e. e.entry) (take i h)) → new ≡ now ++ entry_line e.entry

@@ -6,3 +6,4 @@ pub mod RunReport
 pub mod Told
 pub mod Refused
 pub mod Recovered
+pub mod Summary
