@@ -1,0 +1,13 @@
+pub mod Bits
+pub mod Counts
+pub mod UseLists
+pub mod Named
+pub mod Choices
+pub mod Filling
+pub mod Marks
+pub mod ScriptPasses
+pub mod PlainRows
+pub mod Totals
+pub mod Growing
+pub mod Valid
+pub mod Spreads

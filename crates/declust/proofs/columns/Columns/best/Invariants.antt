@@ -1,0 +1,7 @@
+use Rattle.declust.specs.Columns.{has_room, touching}
+use Rattle.declust.proofs.Choices.{IsBest}
+use Rattle.declust.proofs.columns.Columns.best.Given as goal
+
+-- the best of the arrays so far
+abbrev pub invariant-loop-array : goal.invariant-loop-array
+invariant-loop-array l = IsBest (has_room l.self l.cells) (touching l.self l.uses) l.array l.best
