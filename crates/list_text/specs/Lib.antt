@@ -1,1 +1,2 @@
 pub mod HotText
+pub mod LayoutText
