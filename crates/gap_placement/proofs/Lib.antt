@@ -7,3 +7,6 @@ pub mod Putting
 pub mod Seeking
 pub mod RowSteps
 pub mod Whole
+pub mod Nearing
+pub mod Shortening
+pub mod Joining

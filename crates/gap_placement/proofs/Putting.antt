@@ -1,7 +1,7 @@
 -- Answered intents are put at their numbers, and what the slots between free ones change is gathered.
-use Rattle.std.proofs.Common.{◌≡◌, ℕ, zero, suc, ◌+◌, ◌-◌, ◌<◌, ◌≤◌, Bool, true, false, ◌&&◌, List, [], ◌∷◌, ◌++◌, drop, length, map, set, get_or, nat_lt, nat_le, slice_get, Option, None, Some, is_none, is_some, if◌then◌else◌, refl, sym, ap, ap₂, subst, ◌∙◌, arith}
+use Rattle.std.proofs.Common.{◌≡◌, ℕ, ◌+◌, ◌-◌, ◌<◌, ◌≤◌, Bool, true, false, ◌&&◌, List, [], ◌∷◌, ◌++◌, drop, length, map, set, get_or, nat_lt, nat_le, Option, None, Some, is_none, is_some, if◌then◌else◌, refl, sym, ap, ap₂, subst, ◌∙◌}
 use Rattle.std.specs.Option.{option_map, option_and_then}
-use Rattle.std.proofs.lemmas.List.{append_assoc, append-nil, drop_more, drop_all, length-map, map-append, map-set}
+use Rattle.std.proofs.lemmas.List.{append_assoc, drop_more, drop_all, length-map, map-set}
 use Rattle.std.proofs.Math.ListN.{get_or-map}
 use Rattle.switch_packet.specs.Packets.{PlainOutcome}
 use Rattle.placement_model.specs.FirstOrder.{put_answered, put_all}

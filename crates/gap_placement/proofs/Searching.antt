@@ -1,6 +1,5 @@
 -- The search by legs finds what the first order has at the free numbers.
-use Rattle.std.proofs.Common.{◌≡◌, ℕ, zero, suc, ◌+◌, ◌<◌, ◌≤◌, Bool, true, false, ◌&&◌, List, [], ◌∷◌, ◌++◌, length, map, filter, replicate, set, get_or, nat_lt, Option, None, Some, is_none, is_some, if◌then◌else◌, refl, sym, ap, ap₂, ◌∙◌, ◌⊎◌, inl, inr, arith}
-use Rattle.std.specs.FinMap as fin
+use Rattle.std.proofs.Common.{◌≡◌, ℕ, zero, suc, ◌+◌, Bool, true, false, ◌&&◌, List, [], ◌∷◌, ◌++◌, length, map, filter, replicate, set, nat_lt, Option, None, Some, is_none, is_some, if◌then◌else◌, refl, sym, ap, ap₂, ◌∙◌, inl, inr, arith}
 use Rattle.std.specs.Prelude.{⊤}
 use Rattle.std.specs.List.{list_any, AllByRecursion}
 use Rattle.std.specs.Option.{option_map, option_and_then}
@@ -8,10 +7,10 @@ use Rattle.std.proofs.lemmas.Bool.{cases_lt}
 use Rattle.std.proofs.lemmas.List.{get_or-replicate, get_or_past, length-replicate}
 use Rattle.txn_model.specs.Places.{Places}
 use Rattle.switch_packet.specs.Packets.{PlainOutcome, PlainLog}
-use Rattle.switch_packet.specs.Replay.{Replayed, replay}
-use Rattle.placement_model.specs.FirstOrder.{slot_at, or_else, first_some, follow, fill, has_answer, put_all, slots_of, open_ones, first_order}
+use Rattle.switch_packet.specs.Replay.{replay}
+use Rattle.placement_model.specs.FirstOrder.{slot_at, or_else, first_some, follow, fill, has_answer, slots_of, open_ones, first_order}
 use Rattle.placement_model.specs.Placements.{Task, tasks_of}
-use Rattle.placement_model.proofs.Building.{slots_are, AreSlots}
+use Rattle.placement_model.proofs.Building.{slots_are}
 use Rattle.placement_model.proofs.Counting.{AreNumbered}
 use Rattle.placement_model.proofs.Filling.{kept}
 use Rattle.gap_placement.proofs.Answering.{follow_is}

@@ -1,22 +1,22 @@
 -- The search for open packets, candidate by candidate.
-use Rattle.std.proofs.Common.{◌≡◌, ◌==◌, ℕ, zero, suc, ◌+◌, ◌-◌, ◌<◌, ◌≤◌, Bool, true, false, List, [], ◌∷◌, ◌++◌, drop, length, map, reverse, set, get_or, slice_get, Option, None, Some, is_some, if◌then◌else◌, refl, sym, ap, ap₂, subst, ◌∙◌, arith}
+use Rattle.std.proofs.Common.{◌≡◌, ◌==◌, ℕ, suc, ◌+◌, ◌-◌, ◌<◌, ◌≤◌, Bool, true, false, List, [], ◌∷◌, ◌++◌, drop, length, map, reverse, set, get_or, Option, None, Some, is_some, if◌then◌else◌, refl, sym, ap, subst, ◌∙◌, arith}
 use Rattle.std.specs.Prelude.{Result, Ok, Err, Vec, IfOk}
 use Rattle.std.specs.Global.{Global}
 use Rattle.txn_model.specs.declared.items.NoMemory.{NoMemory}
 use Rattle.std.specs.List.{list_any}
 use Rattle.std.specs.Option.{option_map, option_and_then}
 use Rattle.std.proofs.lemmas.Bool.Decides.{Decides-eqb}
-use Rattle.std.proofs.lemmas.List.{reverse-append, map-append, map-set, length-map}
+use Rattle.std.proofs.lemmas.List.{reverse-append, map-set, length-map}
 use Rattle.std.proofs.Math.ListN.{get_or-map}
 use Rattle.txn_model.specs.Places.{Places}
-use Rattle.switch_packet.specs.Packets.{PlainLog, PlainIntent}
+use Rattle.switch_packet.specs.Packets.{PlainLog}
 use Rattle.placement_model.specs.FirstOrder.{slot_at, or_else, first_some}
 use Rattle.placement_model.specs.Placements.{Task}
-use Rattle.gap_placement.proofs.Walking.{places_same, can_same}
+use Rattle.gap_placement.proofs.Walking.{can_same}
 use Rattle.gap_placement.specs.Changes.{walk}
 use Rattle.gap_placement.specs.Facts.{Each, IfThere, IsUsable}
 use Rattle.gap_placement.specs.Legs.{PlainLeg, plain_leg, passed, tried, seek, start}
-use Rattle.gap_placement.specs.Replays.{HasPlaces, SamePlaces}
+use Rattle.gap_placement.specs.Replays.{SamePlaces}
 use Rattle.gap_placement.specs.Spots.{task_of}
 use Rattle.gap_placement.specs.declared.legs.Leg.{Leg}
 use Rattle.gap_placement.specs.declared.spot.Spot.{Spot}

@@ -1,6 +1,6 @@
 -- The tasks of logs, by where they stand.
-use Rattle.std.proofs.Common.{◌≡◌, ℕ, zero, suc, ◌+◌, ◌<◌, ◌≤◌, List, [], ◌∷◌, ◌++◌, map, length, slice_get, get_or, Option, None, Some, refl, sym, ap, ap₂, ◌∙◌, arith}
-use Rattle.std.proofs.lemmas.List.{map-append, length-append, get_or_append_left, get_or-append-add, length_push, append_assoc}
+use Rattle.std.proofs.Common.{◌≡◌, ℕ, zero, suc, ◌+◌, ◌<◌, ◌≤◌, List, [], ◌∷◌, ◌++◌, map, length, slice_get, get_or, None, Some, refl, sym, ap, ap₂, ◌∙◌, arith}
+use Rattle.std.proofs.lemmas.List.{map-append, length-append, get_or-append-add, length_push, append_assoc}
 use Rattle.switch_packet.specs.Packets.{PlainIntent, PlainOutcome, PlainLog}
 use Rattle.placement_model.specs.Placements.{Task, tasks_from, tasks_behind, tasks_of}
 use Rattle.gap_placement.specs.Facts.{Each}

@@ -1,5 +1,5 @@
 -- One step of each loop.
-use Rattle.std.proofs.Common.{◌≡◌, ◌≢◌, ℕ, zero, suc, ◌+◌, ◌-◌, ◌<◌, ◌≤◌, ℤ, ◌+ℤ◌, pos, Bool, true, false, List, [], ◌∷◌, ◌++◌, drop, take, length, map, get_or, slice_get, set, filter, not, replicate, Option, None, Some, is_some, is_none, nat_lt, unwrap_or, if◌then◌else◌, refl, sym, ap, ap₂, subst, ◌∙◌, arith, w64, SFits, to_z, of_z}
+use Rattle.std.proofs.Common.{◌≡◌, ℕ, zero, suc, ◌+◌, ◌-◌, ◌<◌, ◌≤◌, ℤ, ◌+ℤ◌, Bool, true, false, List, [], ◌∷◌, ◌++◌, drop, take, length, map, get_or, slice_get, set, filter, not, Option, None, Some, is_some, is_none, nat_lt, if◌then◌else◌, refl, sym, ap, ap₂, subst, ◌∙◌, arith, w64, SFits, to_z, of_z}
 use Rattle.std.specs.FinMap as fin
 use Rattle.std.specs.Ordering.{int_eq}
 use Rattle.std.proofs.lemmas.Bool.Decides.{Decides-int_eq, nat_tests}
@@ -16,7 +16,7 @@ use Rattle.txn_model.specs.Number.{wrap}
 use Rattle.txn_model.specs.Serial.{operand, effect}
 use Rattle.txn_model.specs.declared.op.Need.{Need}
 use Rattle.std.specs.List.{AllByRecursion}
-use Rattle.switch_packet.specs.Replay.{Replayed, register_at, packet_pair, always, execute}
+use Rattle.switch_packet.specs.Replay.{register_at, packet_pair, always, execute}
 use Rattle.switch_packet.specs.declared.packet.PacketOp.{PacketOp}
 use Rattle.gap_placement.proofs.Walking.{there-insert, places_same}
 use Rattle.gap_placement.specs.Changes.{walk, changes_from, changes_answered, changes_of}

@@ -1,12 +1,12 @@
 -- What the parts find is the first order.
-use Rattle.std.proofs.Common.{◌≡◌, ℕ, zero, suc, ◌+◌, ◌<◌, ◌≤◌, Bool, true, false, List, [], ◌∷◌, ◌++◌, length, map, reverse, replicate, get_or, slice_get, nat_lt, Option, None, Some, is_some, if◌then◌else◌, refl, sym, ap, ap₂, subst, ◌∙◌, arith}
+use Rattle.std.proofs.Common.{◌≡◌, ℕ, zero, suc, ◌+◌, ◌<◌, Bool, true, false, List, [], ◌∷◌, ◌++◌, length, map, reverse, replicate, get_or, slice_get, nat_lt, Option, None, Some, is_some, if◌then◌else◌, refl, sym, ap, ap₂, subst, ◌∙◌, arith}
 use Rattle.std.specs.FinMap as fin
 use Rattle.std.specs.List.{AllByRecursion}
 use Rattle.std.specs.Option.{option_map, option_and_then}
 use Rattle.std.specs.Ordering.{int_eq}
 use Rattle.std.proofs.lemmas.List.{length-map, reverse-append}
 use Rattle.gap_placement.proofs.Steps.{each_push}
-use Rattle.std.proofs.lemmas.Option.{slice_get-map, slice_get-get_or}
+use Rattle.std.proofs.lemmas.Option.{slice_get-map}
 use Rattle.txn_model.specs.Needs.{needs_list}
 use Rattle.txn_model.specs.Places.{Places}
 use Rattle.txn_model.specs.Serial.{operand, effect}
@@ -17,15 +17,15 @@ use Rattle.switch_packet.specs.Ranges.{Fits, OpFits, OpsFit}
 use Rattle.switch_packet.specs.declared.packet.PacketOp.{PacketOp}
 use Rattle.placement_model.specs.FirstOrder.{slots_of, put_all, open_ones, fill, first_order}
 use Rattle.placement_model.specs.Laws.{AreAnsweredButOne}
-use Rattle.placement_model.specs.Placements.{Task, tasks_of, IsPlacement, IsFirstPlacement, IsAnsweredButOne}
+use Rattle.placement_model.specs.Placements.{Task, tasks_of, IsPlacement, IsFirstPlacement}
 use Rattle.placement_model.proofs.First.{first_order_is_first, no_order_is_no_placement}
 use Rattle.gap_placement.proofs.Searching.{first_order_is, from_legs}
 use Rattle.gap_placement.proofs.Standing.{tasks_are}
 use Rattle.gap_placement.specs.Changes.{changes_from, changes_answered, changes_of}
 use Rattle.gap_placement.specs.Facts.{Each, IfThere, IsAnswered, IsUsable}
-use Rattle.gap_placement.specs.Legs.{PlainLeg, plain_leg, legs_from, start}
+use Rattle.gap_placement.specs.Legs.{PlainLeg, plain_leg, legs_from}
 use Rattle.gap_placement.specs.Logs.{IsReadable, AreReadable, HaveTheirPlaces, HasItsPlaces}
-use Rattle.gap_placement.specs.Replays.{NeedsEarlier, HasPlaces, CanReplay}
+use Rattle.gap_placement.specs.Replays.{NeedsEarlier, HasPlaces}
 use Rattle.gap_placement.specs.Slots.{merge}
 use Rattle.gap_placement.specs.Spots.{blank_log, blank_intent, log_at, task_of, IsSpot, spots_behind}
 use Rattle.gap_placement.specs.declared.change.Change.{Change}

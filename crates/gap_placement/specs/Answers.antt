@@ -8,7 +8,6 @@ use Rattle.switch_packet.specs.Replay.{replay_all}
 use Rattle.placement_model.specs.FirstOrder.{first_order}
 use Rattle.placement_model.specs.Placements.{Task, PlainSlotted, IsPlacement, IsFirstPlacement, packets_of, rows_of}
 use Rattle.gap_placement.specs.declared.placement.Slotted.{Slotted}
-use Rattle.gap_placement.specs.declared.placement.Placed.{Placed}
 
 -- a row, without the room of its pairs
 abbrev pub plain_slotted : Slotted → PlainSlotted

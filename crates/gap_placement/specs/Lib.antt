@@ -6,3 +6,4 @@ pub mod Changes
 pub mod Replays
 pub mod Facts
 pub mod Legs
+pub mod Near

@@ -9,10 +9,12 @@
 mod change;
 mod first;
 mod legs;
+mod near;
 mod placement;
 mod replay;
 mod rows;
 mod search;
+mod short;
 mod slots;
 mod spot;
 

@@ -11,7 +11,9 @@ ghost use Rattle.gap_placement.specs.Spots.{task_of};
 
 use crate::change::walk;
 use crate::legs::Leg;
+use crate::near::near_registers;
 use crate::replay::replay_packet;
+use crate::short::shorten_legs;
 use crate::spot::{Spot, intent_at};
 use std::alloc::Global;
 use switch_packet::{Intent, LogView};
@@ -90,6 +92,28 @@ fn seek(
 
 /// Finds the open packets at the free numbers, from the registers' first numbers on. None where there are none.
 pub(crate) fn search(
+    alloc: Global,
+    views: &[LogView],
+    legs: &[Leg],
+    first: &PlaceMap,
+    standing: &mut Vec<Option<Spot>>,
+) -> Result<Option<Vec<Spot>>, NoMemory>
+    requires legs { Each (λ leg. HasPlaces first.now leg.changes.items) legs.now }
+    requires standing { Each (IfThere (IsUsable (map plain_log views.now) first.now)) standing.old.items }
+    ensures found { IfOk result (λ found. option_map (λ spots. map (task_of (map plain_log views.now)) (reverse spots.items)) found
+        ≡ start (map plain_leg legs.now) first.now (map (option_map (task_of (map plain_log views.now))) standing.old.items)) }
+    ensures usable { IfOk result (λ found. IfThere (λ spots. Each (IsUsable (map plain_log views.now) first.now) spots.items) found) }
+{
+    let near = near_registers(alloc, views, standing.as_slice(), first)?;
+    let short = match shorten_legs(alloc, legs, &near, first)? {
+        Some(short) => short,
+        None => return Ok(None),
+    };
+    search_from(alloc, views, short.as_slice(), &near, standing)
+}
+
+/// The same, step by step: each order that is tried walks the legs again.
+fn search_from(
     alloc: Global,
     views: &[LogView],
     legs: &[Leg],

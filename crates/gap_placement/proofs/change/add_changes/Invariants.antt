@@ -1,4 +1,4 @@
-use Rattle.std.proofs.Common.{◌≡◌, [], ◌++◌, take, drop, length}
+use Rattle.std.proofs.Common.{◌≡◌, [], ◌++◌, take, drop}
 use Rattle.std.specs.Option.{option_map}
 use Rattle.gap_placement.specs.Changes.{changes_from}
 use Rattle.gap_placement.proofs.change.add_changes.Given as goal

@@ -4,9 +4,6 @@ use Rattle.std.proofs.lemmas.Int.{to_z-of_z}
 use Rattle.switch_packet.specs.Replay.{register_at}
 use Rattle.gap_placement.specs.Changes.{walk}
 use Rattle.gap_placement.specs.declared.change.Change.{Change}
-use Rattle.gap_placement.proofs.Searching.{first_order_is}
-use Rattle.gap_placement.proofs.Standing.{tasks_are, spots_stand}
-use Rattle.gap_placement.proofs.Walking.{passed_same}
 use Rattle.gap_placement.proofs.Steps.{same_held, walk_on, walk_off, walk_end, places_here, places_on}
 use Rattle.gap_placement.proofs.change.walk.Goals as goal
 

@@ -1,4 +1,4 @@
-use Rattle.std.proofs.Common.{◌≡◌, ℕ, ◌∷◌, [], List, Option, Some, None, Bool, true, false, length, map, replicate, reverse, if◌then◌else◌, refl, subst, sym, ap, ap₂, ◌∙◌, arith, rules}
+use Rattle.std.proofs.Common.{◌≡◌, ℕ, [], List, Option, Some, None, Bool, length, map, replicate, reverse, if◌then◌else◌, refl, subst, sym, ap, ap₂, ◌∙◌, arith}
 use Rattle.std.specs.Option.{option_map}
 use Rattle.txn_model.specs.Places.{Places}
 use Rattle.switch_packet.specs.Packets.{PlainLog, plain_log}
@@ -10,7 +10,7 @@ use Rattle.gap_placement.proofs.Seeking.{each_other}
 use Rattle.gap_placement.proofs.Standing.{tasks_are, spots_stand}
 use Rattle.gap_placement.proofs.Whole.{legs_places, held_places, merge_seen, each_merged, none_each, put_is_slots, no_slots, no_placement, is_first, order_is, tasks_placed, usable_there, answered_there, each_reverse}
 use Rattle.gap_placement.specs.Facts.{Each, IfThere, IsAnswered, IsUsable}
-use Rattle.gap_placement.specs.Legs.{PlainLeg, plain_leg, legs_from, start}
+use Rattle.gap_placement.specs.Legs.{plain_leg, legs_from, start}
 use Rattle.gap_placement.specs.Replays.{HasPlaces}
 use Rattle.gap_placement.specs.Slots.{merge}
 use Rattle.gap_placement.specs.Spots.{task_of, IsSpot, spots_behind}

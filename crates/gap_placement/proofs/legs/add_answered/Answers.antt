@@ -1,11 +1,10 @@
-use Rattle.std.proofs.Common.{◌≡◌, ◌++◌, List, Option, Some, None, map, if◌then◌else◌, subst, sym, ap, ◌∙◌}
+use Rattle.std.proofs.Common.{◌≡◌, ◌++◌, List, Option, Some, None, map, if◌then◌else◌, subst, sym, ap}
 use Rattle.std.specs.Option.{option_map}
 use Rattle.std.specs.Result.{IfOk}
 use Rattle.switch_packet.specs.Packets.{PlainIntent, plain_log, plain_intent, plain_outcome}
 use Rattle.gap_placement.proofs.Steps.{changes_is, changes_none}
 use Rattle.gap_placement.proofs.Whole.{earlier_of}
 use Rattle.gap_placement.specs.Replays.{NeedsEarlier}
-use Rattle.gap_placement.specs.Changes.{changes_from, changes_of}
 use Rattle.gap_placement.specs.Spots.{task_of}
 use Rattle.gap_placement.specs.declared.change.Change.{Change}
 use Rattle.gap_placement.proofs.legs.add_answered.Goals as goal

@@ -1,8 +1,8 @@
-use Rattle.std.proofs.Common.{◌≡◌, ◌+◌, ◌++◌, ◌∷◌, [], List, drop, map, get_or, length, is_some, subst, sym, ap, ap₂, ◌∙◌, arith}
+use Rattle.std.proofs.Common.{◌≡◌, ◌+◌, ◌++◌, List, drop, map, get_or, is_some, subst, sym, ap, ap₂, ◌∙◌}
 use Rattle.std.specs.FinMap as fin
 use Rattle.std.proofs.lemmas.List.{map-append}
 use Rattle.txn_model.specs.Places.{Places}
-use Rattle.switch_packet.specs.Packets.{PlainIntent, PlainPacket, plain, plain_log}
+use Rattle.switch_packet.specs.Packets.{PlainIntent, PlainPacket, plain_log}
 use Rattle.switch_packet.specs.Replay.{replay, replay_all}
 use Rattle.placement_model.specs.Placements.{PlainSlotted, packets_of, rows_from}
 use Rattle.gap_placement.proofs.RowSteps.{rows_step, registers_step, rows_end, registers_end}
@@ -10,7 +10,7 @@ use Rattle.gap_placement.proofs.Steps.{each_at}
 use Rattle.gap_placement.proofs.Walking.{can_same, replay_same}
 use Rattle.gap_placement.specs.Answers.{plain_slotted}
 use Rattle.gap_placement.specs.Facts.{IsUsable}
-use Rattle.gap_placement.specs.Replays.{CanReplay, SamePlaces}
+use Rattle.gap_placement.specs.Replays.{CanReplay}
 use Rattle.gap_placement.specs.Spots.{task_of}
 use Rattle.gap_placement.specs.declared.placement.Slotted.{Slotted}
 use Rattle.gap_placement.specs.declared.spot.Spot.{Spot}

@@ -1,6 +1,6 @@
 use Rattle.std.proofs.Common.{◌≡◌, ◌+◌, ◌++◌, drop, map}
 use Rattle.switch_packet.specs.Packets.{plain_log}
-use Rattle.switch_packet.specs.Replay.{ReplayedAll, replay_all}
+use Rattle.switch_packet.specs.Replay.{replay_all}
 use Rattle.placement_model.specs.Placements.{packets_of, rows_from, rows_of}
 use Rattle.gap_placement.specs.Answers.{plain_slotted}
 use Rattle.gap_placement.specs.Replays.{SamePlaces}

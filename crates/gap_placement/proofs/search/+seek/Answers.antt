@@ -1,9 +1,8 @@
-use Rattle.std.proofs.Common.{◌≡◌, ℕ, ◌+◌, ◌-◌, ◌<◌, ◌∷◌, [], List, Option, Some, None, Ok, is_some, Bool, true, false, drop, length, map, reverse, set, get_or, refl, subst, sym, ap, ap₂, ◌∙◌, arith}
+use Rattle.std.proofs.Common.{◌≡◌, ℕ, ◌<◌, ◌∷◌, List, Option, Some, None, Ok, is_some, drop, length, map, reverse, set, get_or, refl, subst, sym, ap, ap₂, ◌∙◌, arith}
 use Rattle.std.specs.List.{list_any}
-use Rattle.std.specs.Option.{option_map, option_and_then}
+use Rattle.std.specs.Option.{option_map}
 use Rattle.std.proofs.lemmas.List.{get_or_read, set-set, set-get_or, take_rest, length-drop}
-use Rattle.txn_model.specs.Places.{Places}
-use Rattle.switch_packet.specs.Packets.{PlainIntent, plain, plain_intent, plain_log}
+use Rattle.switch_packet.specs.Packets.{PlainIntent, plain_intent, plain_log}
 use Rattle.placement_model.specs.FirstOrder.{first_some}
 use Rattle.placement_model.specs.Placements.{Task}
 use Rattle.gap_placement.proofs.Seeking.{candidate, first_next, first_here, first_past, not_usable, usable_then, free_candidate, candidate_is, seek_is, one_more, seek_none, seek_end, any_seen, not_empty, is_nothing, legs_whole, first_leg, later_legs, each_other, fails_then}
@@ -11,7 +10,7 @@ use Rattle.gap_placement.proofs.Steps.{each_at, each_set, each_push}
 use Rattle.gap_placement.proofs.Walking.{places_same, passed_same}
 use Rattle.gap_placement.specs.Facts.{Each, IfThere, IsUsable}
 use Rattle.gap_placement.specs.Legs.{PlainLeg, plain_leg, passed, seek}
-use Rattle.gap_placement.specs.Replays.{HasPlaces, CanReplay, SamePlaces}
+use Rattle.gap_placement.specs.Replays.{HasPlaces, CanReplay}
 use Rattle.gap_placement.specs.Spots.{task_of}
 use Rattle.gap_placement.specs.declared.legs.Leg.{Leg}
 use Rattle.gap_placement.specs.declared.spot.Spot.{Spot}

@@ -1,4 +1,4 @@
-use Rattle.std.proofs.Common.{◌≡◌, ◌-◌, ◌<◌, length, map, drop, set, None}
+use Rattle.std.proofs.Common.{◌≡◌, ◌-◌, length, map, drop}
 use Rattle.std.specs.Option.{option_map}
 use Rattle.switch_packet.specs.Packets.{plain_log}
 use Rattle.placement_model.specs.FirstOrder.{first_some}

@@ -1,8 +1,7 @@
-use Rattle.std.proofs.Common.{◌≡◌, ◌+◌, ◌++◌, ◌∷◌, [], List, Option, Some, drop, map, get_or, not, Bool, true, false, subst, sym, ap, ◌∙◌, arith, rules}
+use Rattle.std.proofs.Common.{◌+◌, ◌++◌, List, Option, Some, drop, map, get_or, subst, sym, ap, ◌∙◌}
 use Rattle.std.specs.Option.{option_map}
 use Rattle.switch_packet.specs.Packets.{plain_log}
 use Rattle.placement_model.specs.FirstOrder.{open_ones}
-use Rattle.placement_model.specs.Placements.{Task}
 use Rattle.gap_placement.proofs.Steps.{each_push, each_at, open_more, open_same, open_end}
 use Rattle.gap_placement.specs.Facts.{Each, IfThere}
 use Rattle.gap_placement.specs.Spots.{task_of, IsSpot}

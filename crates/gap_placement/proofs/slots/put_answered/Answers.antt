@@ -1,8 +1,7 @@
-use Rattle.std.proofs.Common.{◌≡◌, ◌+◌, ◌++◌, ◌∷◌, [], List, Option, Some, None, drop, map, get_or, Bool, true, false, subst, refl, sym, ap, ◌∙◌, arith, if◌then◌else◌}
-use Rattle.std.specs.Option.{option_map, option_and_then}
+use Rattle.std.proofs.Common.{◌≡◌, ◌+◌, List, Option, Some, None, drop, map, get_or, Bool, subst, sym, ap, ◌∙◌, if◌then◌else◌}
+use Rattle.std.specs.Option.{option_map}
 use Rattle.switch_packet.specs.Packets.{plain_log, plain_outcome}
 use Rattle.placement_model.specs.FirstOrder.{put_all}
-use Rattle.placement_model.specs.Placements.{Task}
 use Rattle.gap_placement.proofs.Putting.{put_step, put_skip, put_end, put_each}
 use Rattle.gap_placement.proofs.Steps.{each_at}
 use Rattle.gap_placement.specs.Facts.{Each, IfThere, IsAnswered}

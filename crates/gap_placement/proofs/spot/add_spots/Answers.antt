@@ -1,4 +1,4 @@
-use Rattle.std.proofs.Common.{◌+◌, ◌-◌, ◌++◌, List, ap, ◌∙◌, arith}
+use Rattle.std.proofs.Common.{◌+◌, ◌-◌, ◌++◌, List, ap, ◌∙◌}
 use Rattle.gap_placement.proofs.Steps.{spots_step, spots_end}
 use Rattle.gap_placement.specs.Spots.{spots_from}
 use Rattle.gap_placement.specs.declared.spot.Spot.{Spot}

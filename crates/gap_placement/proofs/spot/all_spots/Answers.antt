@@ -1,4 +1,4 @@
-use Rattle.std.proofs.Common.{◌≡◌, ◌+◌, ◌++◌, List, ℕ, length, drop, map, ap, sym, ◌∙◌}
+use Rattle.std.proofs.Common.{◌+◌, ◌++◌, List, ℕ, length, drop, map, ap, sym, ◌∙◌}
 use Rattle.switch_packet.specs.Packets.{plain_log}
 use Rattle.switch_packet.specs.declared.record.LogView.{LogView}
 use Rattle.gap_placement.proofs.Steps.{views_step, views_end}
