@@ -1,0 +1,4 @@
+pub mod TupleRows
+pub mod HotRows
+pub mod TimesLaws
+pub mod SoundLoads
