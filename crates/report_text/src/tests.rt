@@ -5,16 +5,18 @@ ghost use Rattle.fabric_model.specs.Driven.{has_no_loss};
 
 use crate::item::{push_aborted, push_committed, push_lost};
 use crate::line::{push_count, push_entry, push_schedule, push_tuple};
-use crate::write_report;
+use crate::{write_recovered, write_report, write_summary};
 use catalogue::{Actor, Actors, Clients, Kind, Session};
 use fabric_core::{End, RunName, World};
+use gap_placement::Slotted;
 use history_model::Entry;
 use port_io::{CleanRack, MemSink, SinkFault};
-use stage_layout::{Layout, Shape};
+use stage_layout::{Layout, LayoutRow, Shape};
 use std::alloc::Global;
 use std::marker::Brand;
 use std::test::Fail;
-use txn_model::{NoMemory, Pair, Stamp, TupleId, TupleMap};
+use switch_recovery::{Recovered, Restored, Torn};
+use txn_model::{Items, NoMemory, Pair, Pairs, Place, PlaceMap, Stamp, TupleId, TupleMap};
 
 const SHAPE: Shape = Shape {
     stages: 1,
@@ -108,12 +110,12 @@ fn session(alloc: Global) -> Result<Session, NoMemory>
 }
 
 /// What is answered where the session's report is written, in pieces of 10 bytes at most, to a sink whose
-/// calls with these numbers fail; and the sink. None where memory ran out before.
+/// calls with these numbers fail; that sink; and one with the summary. None where memory ran out before.
 fn written<N: RunName>(
     alloc: Global,
     session: Session,
     fails: Vec<u32>,
-) -> Option<(Result<(), SinkFault>, MemSink)>
+) -> Option<(Result<(), SinkFault>, MemSink, MemSink)>
     requires sound { IsSound (plan_of session) }
     requires losses { has_no_loss (plan_of session) ≡ true }
     requires named { plan_of session ≡ N.session }
@@ -129,7 +131,63 @@ fn written<N: RunName>(
     };
     let mut sink = MemSink::of(alloc, 10, fails);
     let answer = write_report(alloc, &world, &mut sink);
-    Some((answer, sink))
+    let mut summary = MemSink::of(alloc, 100, Vec::new(alloc));
+    let Ok(()) = write_summary(alloc, &world, &mut summary) else {
+        return None;
+    };
+    Some((answer, sink, summary))
+}
+
+/// Two clients without items; tuple 3 is hot, and tuple 0 isn't.
+fn hot_session(alloc: Global, place: Place) -> Result<Session, NoMemory> {
+    let row = LayoutRow {
+        tuple: TupleId(3),
+        place,
+    };
+    Ok(Session {
+        shape: SHAPE,
+        tuples: TupleMap::of(alloc, &[(TupleId(0), 10), (TupleId(3), 40)])?,
+        layout: Layout::of(alloc, vec![in alloc; row]?)?,
+        tries: 1,
+        clients: Clients::of(vec![in alloc; Vec::new(alloc), Vec::new(alloc)]?),
+        schedule: Actors::of(Vec::new(alloc)),
+    })
+}
+
+#[test]
+fn a_recovered_order_is_told(rt: HostRuntime) -> Result<(), Fail> {
+    let alloc = rt.alloc();
+    let place = Place {
+        stage: 0,
+        array: 0,
+        cell: 0,
+    };
+    let session = hot_session(alloc, place)?;
+    let row = Slotted {
+        number: 1,
+        client: 1,
+        seq: 2,
+        pairs: Pairs::of(vec![in alloc; pair(40, -1)]?),
+    };
+    let restored = Restored {
+        placement: Items::of(vec![in alloc; row]?),
+        registers: PlaceMap::of(alloc, &[(place, -1)])?,
+        next: 2,
+    };
+    let recovered = Recovered {
+        restored,
+        torn: Torn(2),
+    };
+    let mut sink = MemSink::of(alloc, 100, Vec::new(alloc));
+    assert_eq!(rt;
+        write_recovered(alloc, &recovered, &session, &mut sink),
+        Ok(())
+    );
+    assert_eq!(rt;
+        sink.content(),
+        "order 1\n1 c1 2 40>-1\nregisters 1\nt3 -1\nnext 2\ntorn c1\n".as_bytes()
+    );
+    Ok(())
 }
 
 #[test]
@@ -142,9 +200,13 @@ fn a_failing_sink_is_told_as_a_failure(rt: HostRuntime) -> Result<(), Fail> {
     ];
     for (fails, answer, content) in rows {
         let got = written::<Brand>(alloc, session(alloc)?, vec![in alloc; fails]?);
-        let (got, sink) = got.expect(&rt, "there is memory");
+        let (got, sink, summary) = got.expect(&rt, "there is memory");
         assert_eq!(rt; got, answer);
         assert_eq!(rt; sink.content(), content.as_bytes());
+        assert_eq!(rt;
+            summary.content(),
+            "hot 0\nwarm 0\ncold 0\naborted 0\nlost 0\nmoves 0\ntotal 0\n".as_bytes()
+        );
     }
     Ok(())
 }
