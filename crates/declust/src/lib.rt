@@ -14,3 +14,6 @@ mod plain;
 mod uses;
 
 pub use chosen::{SpreadLayout, spread};
+
+#[cfg(test)]
+mod tests;
