@@ -107,7 +107,7 @@ module _ {plan : Plan} {core : CoreState} {c at k : ℕ} {item : PlainItem} {s :
         granted_step = moves_to ∙ ap (λ (z : State). Some z) as_granted
 
         pub granted_stands : {new : Runner} → HasStepped plan c item r new (Lock k) (met.Granted seen)
-            → StandsFor plan (granted s c x op) (record { runners = with_item core.runners c new; logs = core.logs; pipeline = core.pipeline; locks = now; store = core.store; history = core.history; refusals = core.refusals; draft = core.draft })
+            → StandsFor plan (granted s c x op) (record { runners = with_item core.runners c new; logs = core.logs; is_up = core.is_up; pipeline = core.pipeline; locks = now; store = core.store; history = core.history; refusals = core.refusals; draft = core.draft })
         unfolding granted
         granted_stands {new} has = record {
           runners = present.runners_behind a here is (granted s c x op) _ refl has makes;
@@ -145,7 +145,7 @@ module _ {plan : Plan} {core : CoreState} {c at k : ℕ} {item : PlainItem} {s :
 
         pub refused_stands : {new : Runner} {seq : ℕ} {refusals : Listed Refusal} → seq ≡ x.seq → refusals.items ≡ core.refusals.items ++ record { client = c; seq = seq; tuple = op.tuple; holder = by; at = at } ∷ [] → refusals.spare + 1 ≡ core.refusals.spare
             → HasStepped plan c item r new (Lock k) (met.HeldBy by)
-            → StandsFor plan (refused plan s c x op by) (record { runners = with_item core.runners c new; logs = core.logs; pipeline = core.pipeline; locks = now; store = core.store; history = core.history; refusals = refusals; draft = core.draft })
+            → StandsFor plan (refused plan s c x op by) (record { runners = with_item core.runners c new; logs = core.logs; is_up = core.is_up; pipeline = core.pipeline; locks = now; store = core.store; history = core.history; refusals = refusals; draft = core.draft })
         unfolding refused
         refused_stands {new} {seq} {refusals} same_seq told spare has = record {
           runners = present.runners_behind a here is (refused plan s c x op by) _ refl has ((rows_are_stepped plan s c x r.parts (present.within_clients a.turn) at_script).refused op k by);

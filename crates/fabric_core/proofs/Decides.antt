@@ -197,7 +197,7 @@ module _ {plan : Plan} {core : CoreState} {c at : ℕ} {item : PlainItem} {s : S
             ∙ ap (λ (h : History). with_reply c x.seq y.reply (with_entry (record { entry = entry_now; pairs = None }) h)) a.turn.stands.history
             ∙ inserted entry_now y.reply s.history (none_yet c x.seq s.history all_earlier)
 
-        pub follows : Follows plan s (Client c) (record { runners = with_item core.runners c new; logs = core.logs; pipeline = core.pipeline; locks = core.locks; store = core.store; history = history; refusals = core.refusals; draft = core.draft })
+        pub follows : Follows plan s (Client c) (record { runners = with_item core.runners c new; logs = core.logs; is_up = core.is_up; pipeline = core.pipeline; locks = core.locks; store = core.store; history = history; refusals = core.refusals; draft = core.draft })
         unfolding decided
         follows = record {
           next = decided plan s c x;

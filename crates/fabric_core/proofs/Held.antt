@@ -40,7 +40,7 @@ use Rattle.fabric_model.specs.Asking.{in_the_way}
 use Rattle.fabric_model.specs.ColdFacts.{FitsPhase}
 use Rattle.fabric_model.specs.Run.{opening}
 use Rattle.fabric_model.specs.State.{State, client_at}
-use Rattle.fabric_model.specs.Step.{granted, refused, asked, released, decided, logged, posted, replied, taken, installed, switched, entered, holder, next_op}
+use Rattle.fabric_model.specs.Step.{lost, granted, refused, asked, released, decided, logged, posted, replied, taken, installed, switched, entered, holder, next_op}
 use Rattle.fabric_core.specs.Held.{HasLocks, mode_of, lock_of}
 use Rattle.fabric_core.proofs.ColdOps.{cold_op_at}
 
@@ -430,6 +430,12 @@ locks_installed plan s locks now c step has with_lock within at fit left distinc
     (λ t. ap (λ (ops : List Op). lock_of ops t) (held_installed plan c x fit)
     ∙ lock_behind (take (length x.noted) cold) x.installed step.0 t (distinct_taken (length x.noted) cold (distinct_cold plan.layout (script_now plan c x) distinct))
     (at_taken (length x.noted) cold x.installed step.0 left (cold_op_at plan.layout (script_now plan c x) x.reply x.installed step at)))
+
+-- a client that loses the switch has no locks, neither before nor behind
+pub locks_lost : (plan : Plan) (s : State) (locks : Locks) (c : ℕ) → HasLocks plan s locks → c < length s.clients → (client_at s c).noted ≡ [] → HasLocks plan (lost plan s c (client_at s c)) locks
+unfolding lost
+locks_lost plan s locks c has within none =
+    same_locks plan s (lost plan s c (client_at s c)) c (next_item plan c (client_at s c)) refl within locks has (held_by_none plan c (next_item plan c (client_at s c)) refl ∙ sym (held_by_none plan c (client_at s c) none))
 
 -- a table without locks has those of the opening
 pub locks_at_opening : (plan : Plan) (locks : Locks) → ((t : TupleId) (c : ℕ) → mode_held locks t c ≡ None) → HasLocks plan (opening plan) locks

@@ -34,6 +34,9 @@ have_places shape tuples rows none =
     recursion_from_All (λ (row : LayoutRow). has_place shape row.place ≡ true) rows (λ k d lt.
     let row = get_or rows k d in good_row (is_some (fin.get tuples row.tuple)) (has_place shape row.place) (fails_at (is_bad_row shape tuples) d rows k none lt))
 
+pub rows_have_places : (shape : Shape) (tuples : Tuples) (rows : List LayoutRow) → layout_fault shape tuples rows ≡ None → AllByRecursion (λ row. has_place shape row.place ≡ true) rows
+rows_have_places shape tuples rows none = have_places shape tuples rows (none_bad shape tuples rows none)
+
 -- a tuple with a place has it in the switch
 placed : (shape : Shape) (rows : List LayoutRow) (t : TupleId) → AllByRecursion (λ row. has_place shape row.place ≡ true) rows → is_hot rows t ≡ true → has_place shape (hot_place rows t) ≡ true
 placed shape [] t all e = cc

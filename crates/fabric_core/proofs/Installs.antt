@@ -100,7 +100,7 @@ module _ {plan : Plan} {core : CoreState} {c at k : ℕ} {item : PlainItem} {s :
 
     pub follows : {new : Runner} {locks : Locks} {store : hosts.Store} → IsWithLock core.locks locks op.tuple c None → store ≡ hosts.installed core.store op.tuple pair.now r.state.last
         → HasStepped plan c item r new (Install k) Done
-        → Follows plan s (Client c) (record { runners = with_item core.runners c new; logs = core.logs; pipeline = core.pipeline; locks = locks; store = store; history = core.history; refusals = core.refusals; draft = core.draft })
+        → Follows plan s (Client c) (record { runners = with_item core.runners c new; logs = core.logs; is_up = core.is_up; pipeline = core.pipeline; locks = locks; store = store; history = core.history; refusals = core.refusals; draft = core.draft })
     unfolding installed
     follows {new} {locks} {store} with_lock put has = record {
       next = installed plan s c x (op, pair);

@@ -32,3 +32,12 @@ pub mod SwitchShown
 pub mod Takes
 pub mod Worlds
 pub mod NoLoss
+pub mod Switches
+pub mod Losing
+pub mod Recoveries
+pub mod UpAgain
+pub mod OpenRows
+pub mod CellPlaces
+pub mod PlaceRows
+pub mod ReadableLogs
+pub mod Rebuilding

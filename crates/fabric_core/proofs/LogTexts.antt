@@ -128,7 +128,7 @@ two_faults r a b = let clash : Err racks.NoMemory ≡ Err racks.Failed = sym a �
 module _ (plan : Plan) (s : State) (c : ℕ) (text : List ℕ) (old new : Rack) (r : Result (Unit {0}) RackFault) (is : IsAppend c text old new r) (within : c < length plan.clients) (adds : AddsRecord plan s c text) where
   -- it had a fault
   pub failed_turn : (before after : CoreState) (fault : RackFault) → r ≡ Err fault → StandsFor plan s after → IsTurnOf plan s (Client c) before after old new (turn_after c fault)
-  failed_turn before after racks.Failed err stands = (
+  failed_turn before after racks.Failed err stands = inl (
     refl,
     record {
       stands = stands;
@@ -150,26 +150,22 @@ module _ (plan : Plan) (s : State) (c : ℕ) (text : List ℕ) (old new : Rack) 
       rose = is.cause.rose err;
     },
   )
-  failed_turn before after racks.NoMemory err stands = (
-    c,
-    refl,
-    record {
-      stands = stands;
-      text = text;
-      adds = adds;
-      keeps = is.keeps_on;
-      stays = record {
-        told = is.no_memory err;
-        faults = is.cause.still (two_faults r err);
-      };
-    },
-  )
+  failed_turn before after racks.NoMemory err stands = record {
+    stands = stands;
+    takes = inl (c, refl, record { text = text; adds = adds });
+    keeps = is.keeps_on;
+    stays = record {
+      told = is.no_memory err;
+      faults = is.cause.still (two_faults r err);
+    };
+  }
 
   -- it was made, and the state went on to this one
   pub appended_turn : (next : State) (after : CoreState) (done : Unit {0}) → r ≡ Ok done → step plan s (Client c) ≡ Some next → StandsFor plan next after → ((d : ℕ) → d ≢ c → log_at next d ≡ log_at s d)
       → text_of (log_at next c) ≡ text_of (log_at s c) ++ text → Moves plan s (Client c) after old new
   appended_turn next after done ok moves stands others longer = record {
     follows = record { next = next; step = moves; stands = stands };
+    compared = λ e. cc;
     keeps = is.keeps_on;
     logs = λ keeps all d lt. elim (same_or_not d c) [
       | inl e ↦ subst (TellsRecords next new) (sym e) (appended_is (old.told c) (new.told c) (text_of (log_at s c)) text (all c within) (now keeps) ∙ ap Some (sym longer))
@@ -201,9 +197,10 @@ same_text plan s next before after stands stands_next same c lt =
     ap₂ records_text (sym is_next.intents ∙ ap (λ (l : PlainRecords). l.intents) log ∙ is_now.intents) (sym is_next.outcomes ∙ ap (λ (l : PlainRecords). l.outcomes) log ∙ is_now.outcomes)
 
 -- the rack stays, and so do the records
-pub moved_beside : (plan : Plan) (s : State) (actor : Actor) (before after : CoreState) (rack : Rack) → IsReached plan s → StandsFor plan s before → Follows plan s actor after → after.logs ≡ before.logs → Moves plan s actor after rack rack
-moved_beside plan s actor before after rack reached stands follows same = record {
+pub moved_beside : (plan : Plan) (s : State) (actor : Actor) (before after : CoreState) (rack : Rack) → actor ≢ Recover → IsReached plan s → StandsFor plan s before → Follows plan s actor after → after.logs ≡ before.logs → Moves plan s actor after rack rack
+moved_beside plan s actor before after rack other reached stands follows same = record {
   follows = record { next = follows.next; step = follows.step; stands = follows.stands };
+  compared = λ e. absurd (other e);
   keeps = λ keeps. keeps;
   logs = λ keeps all c lt. all c lt ∙ ap Some (sym (same_text plan s follows.next before after stands follows.stands same c (omega (arith, lt, logs_stay plan s reached, clients_stay plan s reached))));
   beyond = λ d le. refl;
@@ -211,11 +208,11 @@ moved_beside plan s actor before after rack reached stands follows same = record
 }
 
 -- an actor that moved without an append, or couldn't move
-pub turned_beside : (plan : Plan) (s : State) (actor same_actor : Actor) (before after : CoreState) (rack : Rack) (b : Bool) (turn : Turn) → actor ≡ same_actor → IsReached plan s → StandsFor plan s before → after.logs ≡ before.logs
+pub turned_beside : (plan : Plan) (s : State) (actor same_actor : Actor) (before after : CoreState) (rack : Rack) (b : Bool) (turn : Turn) → actor ≡ same_actor → same_actor ≢ Recover → IsReached plan s → StandsFor plan s before → after.logs ≡ before.logs
     → MatchBool b (Follows plan s same_actor after) ((step plan s same_actor ≡ None) × (after ≡ before)) → MatchBool b (turn ≡ Moved) (turn ≡ Idle) → IsTurnOf plan s actor before after rack rack turn
-turned_beside plan s actor same_actor before after rack true turn whose reached stands same follows is = subst (λ (a : Actor). IsTurnOf plan s a before after rack rack turn) (sym whose)
-    (subst (IsTurnOf plan s same_actor before after rack rack) (sym is) (moved_beside plan s same_actor before after rack reached stands follows same))
-turned_beside plan s actor same_actor before after rack false turn whose reached stands same rests is = subst (λ (a : Actor). IsTurnOf plan s a before after rack rack turn) (sym whose)
+turned_beside plan s actor same_actor before after rack true turn whose other reached stands same follows is = subst (λ (a : Actor). IsTurnOf plan s a before after rack rack turn) (sym whose)
+    (subst (IsTurnOf plan s same_actor before after rack rack) (sym is) (moved_beside plan s same_actor before after rack other reached stands follows same))
+turned_beside plan s actor same_actor before after rack false turn whose other reached stands same rests is = subst (λ (a : Actor). IsTurnOf plan s a before after rack rack turn) (sym whose)
     (subst (IsTurnOf plan s same_actor before after rack rack) (sym is) rests)
 
 -- the switch isn't lost

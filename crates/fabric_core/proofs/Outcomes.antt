@@ -75,12 +75,13 @@ use Rattle.fabric_core.proofs.HotPlaces.{some_hot_op}
 use Rattle.fabric_core.proofs.LogTexts.{IsAppend, appended_turn, failed_turn, text_with_outcome}
 use Rattle.fabric_core.proofs.Logs.{logs_set}
 use Rattle.fabric_core.proofs.NextActions.{outcome_is}
-use Rattle.fabric_core.proofs.PacketMoves.{takes_move, takes_nothing}
+use Rattle.fabric_core.proofs.PacketMoves.{takes_from_none, takes_move, takes_nothing}
 use Rattle.fabric_core.proofs.PartsOfScripts.{members_are}
 use Rattle.fabric_core.proofs.Posts as posts
 use Rattle.fabric_core.proofs.Present as present
 use Rattle.fabric_core.proofs.Replies as facts
 use Rattle.fabric_core.proofs.Runners.{runner_stepped, runners_set}
+use Rattle.fabric_core.proofs.Switches.{is_switch}
 
 same_some : {T : Type 0} {a b : T} → Some a ≡ Some b → a ≡ b
 same_some e = cc
@@ -137,7 +138,14 @@ fits_joined parts item ops p pairs is waits size fits =
       installed = fits.installed;
     }
 
-module _ {plan : Plan} {core : CoreState} {c at : ℕ} {item : PlainItem} {s : State} (a : IsActionIn plan core c at item LogOutcome s) {ops : List Op} (is : item ≡ Run ops)
+-- where the switch is lost it takes no answer
+pub stays_lost : {plan : Plan} {core : CoreState} {c at : ℕ} {item : PlainItem} {s : State} → IsActionIn plan core c at item LogOutcome s → core.is_up ≡ false → {ops : List Op} → item ≡ Run ops → step plan s (Client c) ≡ None
+stays_lost {plan} {core} {c} {at} {item} {s} a down is =
+    let x = client_at s c in
+    let r = present.some_runner core.runners.items c (present.within_kept a.turn) in
+    takes_from_none plan s c (a.turn.stands.switch.lost down).lost (present.within_clients a.turn) (outcome_is r.0.parts (script_now plan c x) (shown_now plan c x) x.phase (present.action_is a r.1 is))
+
+module _ {plan : Plan} {core : CoreState} {c at : ℕ} {item : PlainItem} {s : State} (a : IsActionIn plan core c at item LogOutcome s) (is_up : core.is_up ≡ true) {ops : List Op} (is : item ≡ Run ops)
     {r : Runner} (here : r ≡ get_or core.runners.items c r) where
   abbrev x : ClientState
   x = client_at s c
@@ -155,7 +163,7 @@ module _ {plan : Plan} {core : CoreState} {c at : ℕ} {item : PlainItem} {s : S
   waiting = outcome_is r.parts script (shown_now plan c x) x.phase (present.action_is a here is)
 
   abbrev now : Switch
-  now = a.turn.stands.switch.now
+  now = (a.turn.stands.switch.up is_up).now
 
   within : c < length s.clients
   within = present.within_clients a.turn
@@ -185,13 +193,13 @@ module _ {plan : Plan} {core : CoreState} {c at : ℕ} {item : PlainItem} {s : S
   seq_now = present.seq_kept a.turn here
 
   box_now : box_of core.pipeline c ≡ option_map boxed (answer_of now c)
-  box_now = (answer_shown plan.shape now core.pipeline c a.turn.stands.switch.shows).box
+  box_now = (answer_shown plan.shape now core.pipeline c (a.turn.stands.switch.up is_up).shows).box
 
   -- ---- without an answer
 
   pub stays : (result : Option ℕ) → result ≡ option_map (λ box. box.number) (box_of core.pipeline c) → result ≡ None → step plan s (Client c) ≡ None
   stays result told none =
-      takes_nothing plan s c now a.turn.stands.switch.up within waiting (none_from (answer_of now c) (ap (option_map (λ (box : PlainBox). box.number)) (sym box_now) ∙ sym told ∙ none))
+      takes_nothing plan s c now (a.turn.stands.switch.up is_up).up within waiting (none_from (answer_of now c) (ap (option_map (λ (box : PlainBox). box.number)) (sym box_now) ∙ sym told ∙ none))
 
   pub fit : script_fault ops ≡ None
   fit = ap script_fault (sym same_ops) ∙ at_script.visit.script
@@ -221,7 +229,7 @@ module _ {plan : Plan} {core : CoreState} {c at : ℕ} {item : PlainItem} {s : S
     next = taken plan s c x answer can.0
 
     pub moves_to : step plan s (Client c) ≡ Some next
-    moves_to = takes_move plan s c now a.turn.stands.switch.up answer can.0 within waiting got.said can.1
+    moves_to = takes_move plan s c now (a.turn.stands.switch.up is_up).up answer can.0 within waiting got.said can.1
 
     reached_next : IsReached plan next
     reached_next = reached_step plan s next (Client c) reached moves_to
@@ -239,7 +247,7 @@ module _ {plan : Plan} {core : CoreState} {c at : ℕ} {item : PlainItem} {s : S
       hot_is = sym (same_some (ap (λ (o : Option Answer). option_map (λ (box : PlainBox). box.pairs) (option_map boxed o)) (sym got.said) ∙ ap (option_map (λ (box : PlainBox). box.pairs)) (sym box_now) ∙ given))
 
       as_many : length hot ≡ length (hot_ops plan.layout script)
-      as_many = ap length hot_is ∙ facts.as_many_hot plan s reached c now a.turn.stands.switch.up answer got.said
+      as_many = ap length hot_is ∙ facts.as_many_hot plan s reached c now (a.turn.stands.switch.up is_up).up answer got.said
 
       pub hot_count : length hot ≡ members r.parts.hot (length ops)
       hot_count = as_many ∙ sym (members_are plan.layout script r.parts at_script.visit at_script.sets) ∙ ap (λ (l : List Op). members r.parts.hot (length l)) same_ops
@@ -324,16 +332,16 @@ module _ {plan : Plan} {core : CoreState} {c at : ℕ} {item : PlainItem} {s : S
             ∙ ap (joined plan.layout script (values_of x.noted)) hot_is
 
         as_many_joined : length pairs.items ≡ length script
-        as_many_joined = ap length reply_is ∙ facts.as_many_pairs plan s reached c now a.turn.stands.switch.up answer got.said
+        as_many_joined = ap length reply_is ∙ facts.as_many_pairs plan s reached c now (a.turn.stands.switch.up is_up).up answer got.said
 
         pub is_open : (seq : ℕ) → seq ≡ r.state.seq → IsOpenLast c seq core.history.items
         is_open seq same =
             subst (λ (n : ℕ). IsOpenLast c n core.history.items) (sym (same ∙ seq_now))
-            (subst (IsOpenLast c x.seq) (sym a.turn.stands.history) (facts.is_open plan s reached c now a.turn.stands.switch.up answer got.said))
+            (subst (IsOpenLast c x.seq) (sym a.turn.stands.history) (facts.is_open plan s reached c now (a.turn.stands.switch.up is_up).up answer got.said))
 
         pub has_pairs : (seq : ℕ) → seq ≡ r.state.seq → ops_at core.history.runs c seq ≡ Some (length pairs.items)
         has_pairs seq same =
-            ap (λ (runs : Runs). ops_at runs c seq) a.turn.stands.runs ∙ ap (ops_at (runs_of plan) c) (same ∙ seq_now) ∙ facts.operations plan s reached c now a.turn.stands.switch.up answer got.said
+            ap (λ (runs : Runs). ops_at runs c seq) a.turn.stands.runs ∙ ap (ops_at (runs_of plan) c) (same ∙ seq_now) ∙ facts.operations plan s reached c now (a.turn.stands.switch.up is_up).up answer got.said
             ∙ ap (λ (n : ℕ). Some n) (sym as_many_joined)
 
         -- the client with the joined pairs
@@ -377,7 +385,7 @@ module _ {plan : Plan} {core : CoreState} {c at : ℕ} {item : PlainItem} {s : S
 
           goes : GoesAlong plan.shape (Some (dropped core.pipeline c)) (Some can.0)
           goes = subst (GoesAlong plan.shape (Some (dropped core.pipeline c))) can.1
-              (subst (IsDropped plan.shape core.pipeline now c) got.said (answer_shown plan.shape now core.pipeline c a.turn.stands.switch.shows).dropped)
+              (subst (IsDropped plan.shape core.pipeline now c) got.said (answer_shown plan.shape now core.pipeline c (a.turn.stands.switch.up is_up).shows).dropped)
 
           pub stands_next : {log : PlainRecords} (there : log ≡ get_or core.logs.items c log) (seq : ℕ) → seq ≡ r.state.seq → (log_new : PlainRecords) → log_new ≡ record log { outcomes = log.outcomes ++ record { seq = seq; number = number; pairs = hot } ∷ [] }
               → (history : Recorded) → history ≡ record core.history { items = kept.with_reply c seq pairs.items core.history.items } → (pipeline : PlainPipeline) → pipeline ≡ dropped core.pipeline c
@@ -386,7 +394,7 @@ module _ {plan : Plan} {core : CoreState} {c at : ℕ} {item : PlainItem} {s : S
           stands_next there seq same log_new pushed history replied_to pipeline is_dropped = record {
             runners = runners_set plan s.clients core.runners.items c z new within a.turn.stands.runners new_is;
             logs = logs_set plan s.logs core.logs.items c (with_outcome (record { seq = x.seq; number = answer.number; pairs = answer.pairs }) (log_at s c)) log_new within_logs a.turn.stands.logs (logs_next there seq log_new same pushed);
-            switch = record { now = can.0; up = refl; shows = subst (λ (p : PlainPipeline). Shows plan.shape p can.0) (sym (same_some goes.1) ∙ sym is_dropped) goes.2 };
+            switch = is_switch is_up (record { now = can.0; up = refl; shows = subst (λ (p : PlainPipeline). Shows plan.shape p can.0) (sym (same_some goes.1) ∙ sym is_dropped) goes.2 });
             locks = locks_taken plan s core.locks c answer can.0 a.turn.stands.locks within;
             tuples = a.turn.stands.tuples;
             store = a.turn.stands.store;
@@ -395,7 +403,7 @@ module _ {plan : Plan} {core : CoreState} {c at : ℕ} {item : PlainItem} {s : S
                 ∙ ap (λ (n : ℕ). kept.with_reply c n pairs.items core.history.items) (same ∙ seq_now)
                 ∙ ap (λ (l : List Pair). kept.with_reply c x.seq l core.history.items) reply_is
                 ∙ ap (kept.with_reply c x.seq reply) a.turn.stands.history
-                ∙ sym (facts.replies_agree plan s reached c now a.turn.stands.switch.up answer got.said reply);
+                ∙ sym (facts.replies_agree plan s reached c now (a.turn.stands.switch.up is_up).up answer got.said reply);
             runs = ap (λ (h : Recorded). h.runs) replied_to ∙ a.turn.stands.runs;
             refusals = a.turn.stands.refusals;
             refused = a.turn.stands.refused;
@@ -407,14 +415,14 @@ pub fault_moves : (c : ℕ) (fault : RackFault) → turn_after c fault ≡ turns
 fault_moves c racks.Failed e = cc
 fault_moves c racks.NoMemory e = cc
 
-module _ {plan : Plan} {core : CoreState} {c at : ℕ} {item : PlainItem} {s : State} (a : IsActionIn plan core c at item LogOutcome s) {ops : List Op} (is : item ≡ Run ops)
+module _ {plan : Plan} {core : CoreState} {c at : ℕ} {item : PlainItem} {s : State} (a : IsActionIn plan core c at item LogOutcome s) (is_up : core.is_up ≡ true) {ops : List Op} (is : item ≡ Run ops)
     {r : Runner} (here : r ≡ get_or core.runners.items c r) {number : ℕ} {result : Option ℕ} (told : result ≡ option_map (λ box. box.number) (box_of core.pipeline c)) (some : result ≡ Some number)
     {hot : List Pair} (given : option_map (λ box. box.pairs) (box_of core.pipeline c) ≡ Some hot) (draft : Draft) (room : HasDraftRoom draft) (outcome : PlainOutcome) (seq : ℕ) (same : seq ≡ r.state.seq)
     (made : outcome ≡ record { seq = seq; number = number; pairs = hot }) {old new : Rack} {answered : Result (Unit {0}) RackFault} (app : IsAppend c (outcome_text outcome) old new answered) where
   -- its outcome could not be appended
   pub failed : (fault : RackFault) → answered ≡ Err fault → (turn : Turn) → turn ≡ turn_after c fault → IsTurnOf plan s (Client c) core (record core { draft = draft }) old new turn
   failed fault err turn same_turn = subst (IsTurnOf plan s (Client c) core (record core { draft = draft }) old new) (sym same_turn)
-      (failed_turn plan s c (outcome_text outcome) old new answered app a.turn.within (adds a is here told some given outcome seq same made) core (record core { draft = draft }) fault err (present.stands_redrafted a.turn.stands draft room))
+      (failed_turn plan s c (outcome_text outcome) old new answered app a.turn.within (adds a is_up is here told some given outcome seq same made) core (record core { draft = draft }) fault err (present.stands_redrafted a.turn.stands draft room))
 
   -- it was, and the client moved
   pub moved : (done : Unit {0}) → answered ≡ Ok done → (pairs : Listed Pair) (items : (rows : List LayoutRow) → IsOneVisit rows ops → IsParts rows ops r.parts → pairs.items ≡ joined rows ops (found_values rows ops r.state.pairs.items) hot)
@@ -424,5 +432,5 @@ module _ {plan : Plan} {core : CoreState} {c at : ℕ} {item : PlainItem} {s : S
       → Moves plan s (Client c) (record core { runners = with_item core.runners c new_runner; logs = with_item core.logs c log_new; pipeline = pipeline; history = history; draft = draft }) old new
   moved done ok pairs items has spare there log_new pushed history replied_to pipeline is_dropped =
       let b = present.redrafted a draft room in
-      appended_turn plan s c (outcome_text outcome) old new answered app a.turn.within (adds b is here told some given outcome seq same made) (next b is here told some) _ done ok (moves_to b is here told some)
-      (stands_next b is here told some given pairs items has spare there seq same log_new pushed history replied_to pipeline is_dropped) (others b is here told some given) (longer b is here told some given outcome seq same made)
+      appended_turn plan s c (outcome_text outcome) old new answered app a.turn.within (adds b is_up is here told some given outcome seq same made) (next b is_up is here told some) _ done ok (moves_to b is_up is here told some)
+      (stands_next b is_up is here told some given pairs items has spare there seq same log_new pushed history replied_to pipeline is_dropped) (others b is_up is here told some given) (longer b is_up is here told some given outcome seq same made)

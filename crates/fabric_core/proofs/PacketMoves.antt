@@ -45,3 +45,22 @@ module _ (plan : Plan) (s : State) (c : ℕ) (now : Switch) (is_up : s.switch �
   pub stage_moves : (x : ℕ) → step plan s (Stage x) ≡ option_map (switched s) (switch.advance plan.shape now x)
   unfolding step
   stage_moves x = ap (option_map (switched s)) (up_now (λ w. switch.advance plan.shape w x))
+
+-- where the switch is lost, no packet moves
+module _ (plan : Plan) (s : State) (c : ℕ) (lost : s.switch ≡ None) where
+  lost_now : {T : Type 0} (f : Switch → Option T) → up s f ≡ None
+  lost_now f = ap (λ (o : Option Switch). option_and_then f o) lost
+
+  pub posts_nowhere : c < length s.clients → (client_at s c).phase ≡ Logged → step plan s (Client c) ≡ None
+  posts_nowhere lt is = client_moves plan s c Logged lt is ∙ ap (option_map (posted s c (client_at s c))) (lost_now (λ w. switch.post w c (packet_now plan c (client_at s c))))
+
+  pub takes_from_none : c < length s.clients → (client_at s c).phase ≡ Waiting → step plan s (Client c) ≡ None
+  takes_from_none lt is = client_moves plan s c Waiting lt is ∙ lost_now (λ w. takes plan s c (client_at s c) w (answer_of w c))
+
+  pub enters_nowhere : step plan s (Port c) ≡ None
+  unfolding step
+  enters_nowhere = lost_now (enters plan s c)
+
+  pub stage_rests : (x : ℕ) → step plan s (Stage x) ≡ None
+  unfolding step
+  stage_rests x = ap (option_map (switched s)) (lost_now (λ w. switch.advance plan.shape w x))

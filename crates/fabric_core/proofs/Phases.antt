@@ -38,20 +38,25 @@ same_test (x ∷ clients) (r ∷ runners) have =
     ap (λ (p : Phase). is_finished p && list_all (λ runner. is_finished runner.state.phase) runners) (have.each 0 r (omega arith))
     ∙ ap (λ (b : Bool). is_finished x.phase && b) (same_test clients runners (record { count = omega (arith, have.count); each = λ c other lt. have.each (suc c) other (omega (arith, lt)) }))
 
-up_test : (plan : Plan) (s : State) (core : CoreState) → StandsFor plan s core → is_some s.switch ≡ true
-up_test plan s core stands = ap (λ (o : Option Switch). is_some o) stands.switch.up
+-- the switch is up where the code says so
+up_test : (plan : Plan) (s : State) (core : CoreState) (b : Bool) → core.is_up ≡ b → StandsFor plan s core → is_some s.switch ≡ b
+up_test plan s core true is stands = ap (λ (o : Option Switch). is_some o) (stands.switch.up is).up
+up_test plan s core false is stands = ap (λ (o : Option Switch). is_some o) (stands.switch.lost is).lost
 
-and_true : (b : Bool) → (b && true) ≡ b
-and_true true = refl
-and_true false = refl
+both_ways : (a b : Bool) → (a && b) ≡ (b && a)
+both_ways true true = refl
+both_ways true false = refl
+both_ways false true = refl
+both_ways false false = refl
 
--- all clients that are kept have finished where all of the model have
-pub finished_same : (plan : Plan) (s : State) (core : CoreState) → StandsFor plan s core → list_all (λ runner. is_finished runner.state.phase) core.runners.items ≡ all_finished s
+-- the switch is up, and all clients that are kept have finished, where all of the model have
+pub finished_same : (plan : Plan) (s : State) (core : CoreState) → StandsFor plan s core → (core.is_up && list_all (λ runner. is_finished runner.state.phase) core.runners.items) ≡ all_finished s
 finished_same plan s core stands =
-    same_test s.clients core.runners.items (have_phases plan s.clients core.runners.items stands.runners)
-    ∙ sym (ap (λ (b : Bool). list_all has_finished s.clients && b) (up_test plan s core stands) ∙ and_true (list_all has_finished s.clients))
+    ap (λ (b : Bool). core.is_up && b) (same_test s.clients core.runners.items (have_phases plan s.clients core.runners.items stands.runners))
+    ∙ both_ways core.is_up (list_all has_finished s.clients)
+    ∙ sym (ap (λ (b : Bool). list_all has_finished s.clients && b) (up_test plan s core core.is_up refl stands))
 
-pub finished_exact : (plan : Plan) (s : State) (core : CoreState) (b : Bool) → StandsFor plan s core → b ≡ list_all (λ runner. is_finished runner.state.phase) core.runners.items → IsTrue b ↔ IsFinished s
+pub finished_exact : (plan : Plan) (s : State) (core : CoreState) (b : Bool) → StandsFor plan s core → b ≡ (core.is_up && list_all (λ runner. is_finished runner.state.phase) core.runners.items) → IsTrue b ↔ IsFinished s
 finished_exact plan s core b stands is = (λ t. (finished_by_test s).0 (sym (finished_same plan s core stands) ∙ sym is ∙ t), λ f. is ∙ finished_same plan s core stands ∙ (finished_by_test s).1 f)
 
 -- each client of the session is kept

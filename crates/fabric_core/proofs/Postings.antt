@@ -1,5 +1,5 @@
 -- A client that posts its packet does as the model's.
-use Rattle.std.proofs.Common.{◌≡◌, ℕ, ◌+◌, ◌-◌, ◌<◌, ◌≤◌, true, List, [], ◌∷◌, ◌++◌, length, get_or, slice_get, Option, Some, None, IsSome, refl, sym, ap, subst, ◌∙◌, arith, if◌then◌else◌}
+use Rattle.std.proofs.Common.{◌≡◌, ℕ, ◌+◌, ◌-◌, ◌<◌, ◌≤◌, true, false, List, [], ◌∷◌, ◌++◌, length, get_or, slice_get, Option, Some, None, IsSome, refl, sym, ap, subst, ◌∙◌, arith, if◌then◌else◌}
 use Rattle.std.specs.Vec.{with_item}
 use Rattle.std.specs.Prelude.{vec_len, vec_capacity}
 use Rattle.std.specs.Global.{Vec}
@@ -35,7 +35,7 @@ use Rattle.fabric_model.specs.Intents.{intent_now, packet_now, values_of}
 use Rattle.fabric_model.specs.Laws.{IsReached}
 use Rattle.fabric_model.specs.Recorded.{HasRecords, has_open}
 use Rattle.fabric_model.specs.State.{State, client_at, log_at}
-use Rattle.fabric_model.specs.Step.{has_hot, posted}
+use Rattle.fabric_model.specs.Step.{has_hot, posted, step}
 use Rattle.fabric_model.proofs.Legal.{records_answer}
 use Rattle.fabric_model.proofs.Fitting.{packets_are_planned, packets_have_ranges}
 use Rattle.fabric_model.proofs.PerClient.{logs_stay}
@@ -46,16 +46,25 @@ use Rattle.fabric_core.specs.declared.runner.Runner.{Runner}
 use Rattle.fabric_core.proofs.Held.{locks_posted}
 use Rattle.fabric_core.proofs.Logs.{last_is}
 use Rattle.fabric_core.proofs.NextActions.{post_is}
-use Rattle.fabric_core.proofs.PacketMoves.{posts_move}
+use Rattle.fabric_core.proofs.PacketMoves.{posts_move, posts_nowhere}
 use Rattle.fabric_core.proofs.PlannedPosts.{has_plan}
 use Rattle.fabric_core.proofs.Posts as facts
 use Rattle.fabric_core.proofs.Present as present
+use Rattle.fabric_core.proofs.Switches.{is_switch}
 use Rattle.fabric_core.proofs.SwitchShown.{switch_reached}
 
 -- such an item is a script
 item_is_script : (plan : Plan) (core : CoreState) (c at : ℕ) (item : PlainItem) (s : State) → IsActionIn plan core c at item Post s → (r : Runner) → (ops : List Op) × (item ≡ Run ops)
 item_is_script plan core c at (Run ops) s a r = (ops, refl)
 item_is_script plan core c at Lose s a r = let no = a.next r in cc
+
+-- where the switch is lost it doesn't move
+pub stays : {plan : Plan} {core : CoreState} {c at : ℕ} {item : PlainItem} {s : State} → IsActionIn plan core c at item Post s → core.is_up ≡ false → step plan s (Client c) ≡ None
+stays {plan} {core} {c} {at} {item} {s} a down =
+    let x = client_at s c in
+    let r = present.some_runner core.runners.items c (present.within_kept a.turn) in
+    let run = item_is_script plan core c at item s a r.0 in
+    posts_nowhere plan s c (a.turn.stands.switch.lost down).lost (present.within_clients a.turn) (post_is r.0.parts (script_now plan c x) (shown_now plan c x) x.phase (present.action_is a r.1 run.1))
 
 some_of : {T : Type 0} (o : Option T) → IsSome o → (x : T) × (o ≡ Some x)
 some_of None is = cc
@@ -64,7 +73,7 @@ some_of (Some x) is = (x, refl)
 same_some : {T : Type 0} {a b : T} → Some a ≡ Some b → a ≡ b
 same_some e = cc
 
-module _ {plan : Plan} {core : CoreState} {c at : ℕ} {item : PlainItem} {s : State} (a : IsActionIn plan core c at item Post s) {r : Runner} (here : r ≡ get_or core.runners.items c r) where
+module _ {plan : Plan} {core : CoreState} {c at : ℕ} {item : PlainItem} {s : State} (a : IsActionIn plan core c at item Post s) (is_up : core.is_up ≡ true) {r : Runner} (here : r ≡ get_or core.runners.items c r) where
   abbrev x : ClientState
   x = client_at s c
 
@@ -84,13 +93,13 @@ module _ {plan : Plan} {core : CoreState} {c at : ℕ} {item : PlainItem} {s : S
   is_logged = post_is r.parts script (shown_now plan c x) x.phase (present.action_is a here run.1)
 
   abbrev now : Switch
-  now = a.turn.stands.switch.now
+  now = (a.turn.stands.switch.up is_up).now
 
   within : c < length s.clients
   within = present.within_clients a.turn
 
   hot : has_hot plan script ≡ true
-  hot = facts.has_hot_now plan s reached c now a.turn.stands.switch.up is_logged
+  hot = facts.has_hot_now plan s reached c now (a.turn.stands.switch.up is_up).up is_logged
 
   within_logs : c < length s.logs
   within_logs = omega (arith, within, logs_stay plan s reached)
@@ -130,9 +139,9 @@ module _ {plan : Plan} {core : CoreState} {c at : ℕ} {item : PlainItem} {s : S
       -- ---- the switch
 
       is_post : IsPost plan.shape core.pipeline now c (packet_now plan c x)
-      is_post = post_shown plan.shape (hot_cells plan) now core.pipeline c (packet_now plan c x) (switch_reached plan s reached now a.turn.stands.switch.up) a.turn.stands.switch.shows
-          (omega (arith, within, facts.desks_now plan s reached c now a.turn.stands.switch.up is_logged))
-          (facts.vacant plan s reached c now a.turn.stands.switch.up is_logged)
+      is_post = post_shown plan.shape (hot_cells plan) now core.pipeline c (packet_now plan c x) (switch_reached plan s reached now (a.turn.stands.switch.up is_up).up) (a.turn.stands.switch.up is_up).shows
+          (omega (arith, within, facts.desks_now plan s reached c now (a.turn.stands.switch.up is_up).up is_logged))
+          (facts.vacant plan s reached c now (a.turn.stands.switch.up is_up).up is_logged)
           (packets_are_planned plan reached.sound c x.seq (values_of x.noted) hot)
 
       pub is_posting : (bytes : List ℕ) → bytes ≡ packet_text (plain intent.packet) → IsPacket (plain intent.packet) → IsPosting core.pipeline c bytes
@@ -141,13 +150,13 @@ module _ {plan : Plan} {core : CoreState} {c at : ℕ} {item : PlainItem} {s : S
         is_packet = subst IsPacket packet_is is;
         text = text ∙ ap packet_text packet_is;
         own = facts.client_of_packet plan c x;
-        planned = subst (λ (shape : Shape). HasPlan shape (packet_now plan c x)) (sym (shape_is plan.shape core.pipeline now a.turn.stands.switch.shows)) (has_plan plan.shape plan.layout c x.seq script (values_of x.noted) (packets_are_planned plan reached.sound c x.seq (values_of x.noted) hot));
-        there = omega (arith, within, facts.desks_now plan s reached c now a.turn.stands.switch.up is_logged, clients_are plan.shape core.pipeline now a.turn.stands.switch.shows);
+        planned = subst (λ (shape : Shape). HasPlan shape (packet_now plan c x)) (sym (shape_is plan.shape core.pipeline now (a.turn.stands.switch.up is_up).shows)) (has_plan plan.shape plan.layout c x.seq script (values_of x.noted) (packets_are_planned plan reached.sound c x.seq (values_of x.noted) hot));
+        there = omega (arith, within, facts.desks_now plan s reached c now (a.turn.stands.switch.up is_up).up is_logged, clients_are plan.shape core.pipeline now (a.turn.stands.switch.up is_up).shows);
         vacant = is_post.vacant;
       }
 
       can : (next : Switch) × (post now c (packet_now plan c x) ≡ Some next)
-      can = some_of (post now c (packet_now plan c x)) (facts.can_post_now plan s reached c now a.turn.stands.switch.up is_logged within)
+      can = some_of (post now c (packet_now plan c x)) (facts.can_post_now plan s reached c now (a.turn.stands.switch.up is_up).up is_logged within)
 
       pub follows : {new : Runner} (has : HasStepped plan c item r new Post Done) (pipeline : PlainPipeline) (bytes : List ℕ) (text : Vec ℕ) → bytes ≡ packet_text (plain intent.packet) → IsPacket (plain intent.packet)
           → ((p : PlainPacket) → IsPacket p → bytes ≡ packet_text p → pipeline ≡ rows.posted core.pipeline c p) → vec_capacity text ≡ vec_capacity core.draft.text
@@ -155,11 +164,11 @@ module _ {plan : Plan} {core : CoreState} {c at : ℕ} {item : PlainItem} {s : S
       unfolding posted
       follows {new} has pipeline bytes text is_text is made same = record {
         next = next;
-        step = posts_move plan s c now a.turn.stands.switch.up can.0 within is_logged can.1;
+        step = posts_move plan s c now (a.turn.stands.switch.up is_up).up can.0 within is_logged can.1;
         stands = record {
           runners = present.runners_behind a here run.1 next (record x { phase = Waiting }) refl has ((rows_are_stepped plan s c x r.parts within at_script).posted can.0 is_logged);
           logs = a.turn.stands.logs;
-          switch = record { now = can.0; up = refl; shows = shows };
+          switch = is_switch is_up (record { now = can.0; up = refl; shows = shows });
           locks = locks_posted plan s core.locks c can.0 a.turn.stands.locks within;
           tuples = a.turn.stands.tuples;
           store = a.turn.stands.store;

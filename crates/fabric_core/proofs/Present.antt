@@ -1,5 +1,5 @@
 -- What the code knows of a client whose turn it is, and of its next action.
-use Rattle.std.proofs.Common.{◌≡◌, ◌≢◌, ℕ, ◌<◌, ◌≤◌, nat_lt, Bool, true, List, [], ◌∷◌, length, get_or, set, unwrap_or, Option, Some, None, inl, inr, sym, ap, subst, ◌∙◌, arith, if◌then◌else◌}
+use Rattle.std.proofs.Common.{◌≡◌, ◌≢◌, ℕ, zero, suc, ◌<◌, ◌≤◌, nat_lt, Bool, true, List, [], ◌∷◌, length, get_or, set, unwrap_or, Option, Some, None, inl, inr, refl, sym, ap, subst, ◌∙◌, arith, if◌then◌else◌}
 use Rattle.std.specs.Prelude.{sum_by, option_and_then}
 use Rattle.std.specs.List.{AllByRecursion}
 use Rattle.std.proofs.lemmas.Bool.{cases_lt}
@@ -193,6 +193,12 @@ module _ {plan : Plan} {core : CoreState} {c at : ℕ} {present : PlainItem} {ac
             subst (λ (l : List ClientState). AreRunners plan l (set core.runners.items c new)) (sym clients)
             (runners_set plan s.clients core.runners.items c z new (within_clients a.turn) a.turn.stands.runners runner_behind)
 
+-- there is a runner at each place
+pub some_runner : (runners : List Runner) (c : ℕ) → c < length runners → (r : Runner) × (r ≡ get_or runners c r)
+some_runner [] c lt = absurd (omega arith)
+some_runner (r ∷ runners) zero lt = (r, refl)
+some_runner (r ∷ runners) (suc c) lt = some_runner runners c (omega (arith, lt))
+
 -- ---- with other records in the making
 
 pub stands_redrafted : {plan : Plan} {core : CoreState} {s : State} → StandsFor plan s core → (draft : Draft) → HasDraftRoom draft → StandsFor plan s (record core { draft = draft })
@@ -213,7 +219,7 @@ stands_redrafted stands draft room = record {
 pub redrafted : {plan : Plan} {core : CoreState} {c at : ℕ} {present : PlainItem} {action : Action} {s : State} → IsActionIn plan core c at present action s → (draft : Draft) → HasDraftRoom draft
     → IsActionIn plan (record core { draft = draft }) c at present action s
 redrafted a draft room = record {
-  turn = record { reached = a.turn.reached; stands = stands_redrafted a.turn.stands draft room; within = a.turn.within; losses = a.turn.losses; moves = a.turn.moves };
+  turn = record { reached = a.turn.reached; stands = stands_redrafted a.turn.stands draft room; within = a.turn.within; moves = a.turn.moves };
   item = a.item;
   next = a.next;
 }

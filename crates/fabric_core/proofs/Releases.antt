@@ -61,7 +61,7 @@ module _ {plan : Plan} {core : CoreState} {c at k : ℕ} {item : PlainItem} {s :
     is_held = ap is_some (a.turn.stands.locks op.tuple c ∙ held_last plan c x op there fit.1 fit.0 (present.distinct_now a.turn c))
 
     pub follows : {new : Runner} {locks : Locks} → IsWithLock core.locks locks op.tuple c None → HasStepped plan c item r new (Release k) Done
-        → Follows plan s (Client c) (record { runners = with_item core.runners c new; logs = core.logs; pipeline = core.pipeline; locks = locks; store = core.store; history = core.history; refusals = core.refusals; draft = core.draft })
+        → Follows plan s (Client c) (record { runners = with_item core.runners c new; logs = core.logs; is_up = core.is_up; pipeline = core.pipeline; locks = locks; store = core.store; history = core.history; refusals = core.refusals; draft = core.draft })
     unfolding released
     follows {new} {locks} with_lock has = record {
       next = released plan s c x;

@@ -1,5 +1,6 @@
 -- What a client whose turn it is does.
 use Rattle.std.proofs.Common.{◌≡◌, ◌⊎◌, ℕ, zero, suc, ◌<◌, nat_lt, Bool, true, false, if◌then◌else◌, List, [], ◌∷◌, length, get_or, Option, Some, None, inl, inr, refl, sym, ap, subst, ◌∙◌, arith}
+use Rattle.txn_model.specs.declared.op.Op.{Op}
 use Rattle.catalogue.specs.Plan as catalogue
 use Rattle.catalogue.specs.Plan.{Plan, PlainItem, item_of}
 use Rattle.catalogue.specs.declared.actor.Actor.TheVariants.{Client}
@@ -19,7 +20,6 @@ use Rattle.fabric_model.specs.Step.{client_step, step}
 use Rattle.fabric_core.specs.Standing.{IsActionIn, IsTurnIn}
 use Rattle.fabric_core.specs.declared.core_state.CoreState.{CoreState}
 use Rattle.fabric_core.specs.declared.runner.Runner.{Runner}
-use Rattle.fabric_core.proofs.NoLoss.{no_loss}
 use Rattle.fabric_core.proofs.Present as present
 
 -- within a list the default is never read
@@ -29,7 +29,7 @@ any_default (x ∷ xs) zero d e lt = refl
 any_default (x ∷ xs) (suc i) d e lt = any_default xs i d e (omega arith)
 
 -- only at a loss is a client's next action to lose the switch
-loses : (parts : Parts) (p : PlainClient) (item : PlainItem) → next_action parts p (Some item) ≡ Lose → item ≡ catalogue.Lose
+pub loses : (parts : Parts) (p : PlainClient) (item : PlainItem) → next_action parts p (Some item) ≡ Lose → item ≡ catalogue.Lose
 loses parts p catalogue.Lose e = refl
 loses parts p (catalogue.Run ops) e = absurd (never p.phase e)
   where
@@ -63,10 +63,6 @@ module _ {plan : Plan} {core : CoreState} {c at : ℕ} {s : State} (turn : IsTur
       let finished = subst (IsAt plan c x r.parts) (item_now is) (present.clients_fit turn here).at in
       present.step_here turn ∙ ap (client_step plan s c x) finished
 
-  -- the session has no loss
-  pub rests_lost : Some catalogue.Lose ≡ item_of plan c r.state.seq → step plan s (Client c) ≡ None
-  rests_lost is = absurd (no_loss plan c x.seq turn.losses (item_now is))
-
   module _ {item : PlainItem} (is : Some item ≡ item_of plan c r.state.seq) where
     fits_any : FitsAny r.parts (shown_now plan c x) (Some item)
     fits_any = subst (FitsAny r.parts (shown_now plan c x)) (item_now is) (present.clients_fit turn here).fits
@@ -88,7 +84,18 @@ module _ {plan : Plan} {core : CoreState} {c at : ℕ} {s : State} (turn : IsTur
         at_place : (other : Runner) → get_or core.runners.items c other ≡ r
         at_place other = any_default core.runners.items c other r (present.within_kept turn) ∙ sym here
 
-    -- where it has nothing to do it doesn't move
-    pub rests : {result : Action} → result ≡ next_action r.parts (plain_client r.state) (Some item) → (result ≡ Lose) ⊎ (result ≡ Rest) → step plan s (Client c) ≡ None
-    rests chosen (inl is_lost) = absurd (no_loss plan c x.seq turn.losses (item_now is ∙ ap Some (loses r.parts (plain_client r.state) item (sym chosen ∙ is_lost))))
-    rests chosen (inr is_rest) = present.step_is (acts chosen is_rest) here
+    -- at a loss it loses the switch
+    pub loses_here : item ≡ catalogue.Lose → IsActionIn plan core c at item Lose s
+    loses_here loss = record {
+      turn = turn;
+      item = item_now is;
+      next = λ other. ap (λ (i : PlainItem). let runner = get_or core.runners.items c other in next_action runner.parts (plain_client runner.state) (Some i)) loss;
+    }
+
+    -- a script doesn't lose the switch, and one that has nothing to do doesn't move
+    pub rests : {result : Action} {ops : List Op} → item ≡ catalogue.Run ops → result ≡ next_action r.parts (plain_client r.state) (Some item) → (result ≡ Lose) ⊎ (result ≡ Rest) → step plan s (Client c) ≡ None
+    rests {ops = ops} run chosen (inl is_lost) = absurd (is_script (sym run ∙ loses r.parts (plain_client r.state) item (sym chosen ∙ is_lost)))
+      where
+        is_script : catalogue.Run ops ≡ catalogue.Lose → ⊥
+        is_script e = cc
+    rests run chosen (inr is_rest) = present.step_is (acts chosen is_rest) here

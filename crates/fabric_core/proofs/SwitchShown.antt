@@ -37,6 +37,7 @@ use Rattle.fabric_core.proofs.Held.{locks_switched, locks_entered}
 use Rattle.fabric_model.proofs.SmallStamps.{fits_room}
 use Rattle.pipeline.proofs.Events.{advance_shown, enter_shown}
 use Rattle.fabric_core.proofs.PacketMoves.{enters_move, stage_moves}
+use Rattle.fabric_core.proofs.Switches.{is_switch}
 
 same_some : {T : Type 0} {a b : T} → Some a ≡ Some b → a ≡ b
 same_some e = cc
@@ -90,12 +91,12 @@ next_shown plan seen now shows = ap (λ (p : PlainPipeline). p.next) shows.is
 abbrev new_entry : ℕ → ℕ → ℕ → HistoryEntry
 new_entry c number seq = record { entry = record { stamp = record { number = number; sub = 0 }; client = c; seq = seq }; pairs = None }
 
-module _ (plan : Plan) (s : State) (core : CoreState) (stands : StandsFor plan s core) (reached : IsReached plan s) where
+module _ (plan : Plan) (s : State) (core : CoreState) (is_up : core.is_up ≡ true) (stands : StandsFor plan s core) (reached : IsReached plan s) where
   abbrev now : Switch
-  now = stands.switch.now
+  now = (stands.switch.up is_up).now
 
   machine_now : machine.IsReached plan.shape (hot_cells plan) now
-  machine_now = switch_reached plan s reached now stands.switch.up
+  machine_now = switch_reached plan s reached now (stands.switch.up is_up).up
 
   -- ---- a stage
 
@@ -105,7 +106,7 @@ module _ (plan : Plan) (s : State) (core : CoreState) (stands : StandsFor plan s
   stands_switched next after shows = record {
     runners = stands.runners;
     logs = stands.logs;
-    switch = record { now = next; up = refl; shows = shows };
+    switch = is_switch is_up (record { now = next; up = refl; shows = shows });
     locks = locks_switched plan s core.locks next stands.locks;
     tuples = stands.tuples;
     store = stands.store;
@@ -117,18 +118,18 @@ module _ (plan : Plan) (s : State) (core : CoreState) (stands : StandsFor plan s
   }
 
   pub advances : (x : ℕ) (after : PlainPipeline) → advanced core.pipeline x ≡ Some after → Follows plan s (Stage x) (record core { pipeline = after })
-  advances x after made = by (advance plan.shape now x) refl (advance_shown plan.shape (hot_cells plan) now core.pipeline x machine_now stands.switch.shows)
+  advances x after made = by (advance plan.shape now x) refl (advance_shown plan.shape (hot_cells plan) now core.pipeline x machine_now (stands.switch.up is_up).shows)
     where
       by : (o : Option Switch) → advance plan.shape now x ≡ o → GoesAlong plan.shape (advanced core.pipeline x) o → Follows plan s (Stage x) (record core { pipeline = after })
       by None is none = absurd (some_none (sym made ∙ none))
       by (Some next) is goes = record {
         next = switched s next;
-        step = stage_moves plan s 0 now stands.switch.up x ∙ ap (option_map (switched s)) is;
+        step = stage_moves plan s 0 now (stands.switch.up is_up).up x ∙ ap (option_map (switched s)) is;
         stands = stands_switched next after (subst (λ (p : PlainPipeline). Shows plan.shape p next) (same_some (sym goes.1 ∙ made)) goes.2);
       }
 
   pub stays : (x : ℕ) → advanced core.pipeline x ≡ None → step plan s (Stage x) ≡ None
-  stays x none = stage_moves plan s 0 now stands.switch.up x ∙ ap (option_map (switched s)) (by (advance plan.shape now x) (advance_shown plan.shape (hot_cells plan) now core.pipeline x machine_now stands.switch.shows))
+  stays x none = stage_moves plan s 0 now (stands.switch.up is_up).up x ∙ ap (option_map (switched s)) (by (advance plan.shape now x) (advance_shown plan.shape (hot_cells plan) now core.pipeline x machine_now (stands.switch.up is_up).shows))
     where
       by : (o : Option Switch) → GoesAlong plan.shape (advanced core.pipeline x) o → o ≡ None
       by None goes = refl
@@ -137,12 +138,12 @@ module _ (plan : Plan) (s : State) (core : CoreState) (stands : StandsFor plan s
   -- ---- the port
 
   numbers_left : core.pipeline.next + 1 < 2 ^ 64
-  numbers_left = let few = few_packets plan s reached now stands.switch.up in let next = next_shown plan core.pipeline now stands.switch.shows in omega (arith, few, next)
+  numbers_left = let few = few_packets plan s reached now (stands.switch.up is_up).up in let next = next_shown plan core.pipeline now (stands.switch.up is_up).shows in omega (arith, few, next)
 
   pub keeps_out : (c : ℕ) → rows.entered core.pipeline c ≡ None → step plan s (Port c) ≡ None
   keeps_out c none =
-      enters_move plan s c now stands.switch.up
-      ∙ ap (option_map (behind_entry s c (desk_at now c) (next_number now))) (by (enter plan.shape now c) (enter_shown plan.shape (hot_cells plan) now core.pipeline c machine_now stands.switch.shows numbers_left))
+      enters_move plan s c now (stands.switch.up is_up).up
+      ∙ ap (option_map (behind_entry s c (desk_at now c) (next_number now))) (by (enter plan.shape now c) (enter_shown plan.shape (hot_cells plan) now core.pipeline c machine_now (stands.switch.up is_up).shows numbers_left))
     where
       by : (o : Option Switch) → GoesAlong plan.shape (rows.entered core.pipeline c) o → o ≡ None
       by None goes = refl
@@ -155,13 +156,13 @@ module _ (plan : Plan) (s : State) (core : CoreState) (stands : StandsFor plan s
     pub shows : Shows plan.shape after next
 
   pub lets_in : (c : ℕ) (after : PlainPipeline) → rows.entered core.pipeline c ≡ Some after → Enters c after
-  lets_in c after made = by (enter plan.shape now c) refl (enter_shown plan.shape (hot_cells plan) now core.pipeline c machine_now stands.switch.shows numbers_left)
+  lets_in c after made = by (enter plan.shape now c) refl (enter_shown plan.shape (hot_cells plan) now core.pipeline c machine_now (stands.switch.up is_up).shows numbers_left)
     where
       by : (o : Option Switch) → enter plan.shape now c ≡ o → GoesAlong plan.shape (rows.entered core.pipeline c) o → Enters c after
       by None is none = absurd (some_none (sym made ∙ none))
       by (Some next) is goes = record {
         next = next;
-        step = enters_move plan s c now stands.switch.up ∙ ap (option_map (behind_entry s c (desk_at now c) (next_number now))) is;
+        step = enters_move plan s c now (stands.switch.up is_up).up ∙ ap (option_map (behind_entry s c (desk_at now c) (next_number now))) is;
         shows = subst (λ (p : PlainPipeline). Shows plan.shape p next) (same_some (sym goes.1 ∙ made)) goes.2;
       }
 
@@ -170,7 +171,7 @@ module _ (plan : Plan) (s : State) (core : CoreState) (stands : StandsFor plan s
   pass_at c = option_map (λ flight. flight.pass) (waiting_of core.pipeline c)
 
   pass_is : (c : ℕ) → pass_at c ≡ option_map (λ flight. flight.pass) (waiting_on now.flights (desk_at now c))
-  pass_is c = ap (option_map (λ (flight : PlainFlight). flight.pass)) (waits_shown plan core.pipeline now c stands.switch.shows)
+  pass_is c = ap (option_map (λ (flight : PlainFlight). flight.pass)) (waits_shown plan core.pipeline now c (stands.switch.up is_up).shows)
 
   -- a packet that waits for its first pass was posted
   pub first_is_posted : (c : ℕ) → pass_at c ≡ Some 1 → (p : PlainPacket) × (desk_at now c ≡ Posted p)
@@ -224,7 +225,7 @@ module _ (plan : Plan) (s : State) (core : CoreState) (stands : StandsFor plan s
         stands = record {
           runners = stands.runners;
           logs = stands.logs;
-          switch = record { now = e.next; up = refl; shows = e.shows };
+          switch = is_switch is_up (record { now = e.next; up = refl; shows = e.shows });
           locks = locks_entered plan s core.locks c p (next_number now) e.next stands.locks;
           tuples = stands.tuples;
           store = stands.store;
@@ -257,22 +258,22 @@ module _ (plan : Plan) (s : State) (core : CoreState) (stands : StandsFor plan s
     pub is_transaction : IsSome (ops_at core.history.runs c k.state.seq)
     is_transaction =
         subst (λ (runs : Runs). IsSome (ops_at runs c k.state.seq)) (sym stands.runs)
-        (subst (λ (q : ℕ). IsSome (ops_at (runs_of plan) c q)) (sym (seq_kept c lt k here)) (enters.is_transaction plan s reached c now stands.switch.up posted.0 posted.1))
+        (subst (λ (q : ℕ). IsSome (ops_at (runs_of plan) c q)) (sym (seq_kept c lt k here)) (enters.is_transaction plan s reached c now (stands.switch.up is_up).up posted.0 posted.1))
 
     module _ (number : ℕ) (next_is : number ≡ core.pipeline.next) where
       number_is : number ≡ next_number now
-      number_is = next_is ∙ next_shown plan core.pipeline now stands.switch.shows
+      number_is = next_is ∙ next_shown plan core.pipeline now (stands.switch.up is_up).shows
 
       pub is_above : IsAboveOwn (record { stamp = record { number = number; sub = 0 }; client = c; seq = k.state.seq }) core.history.items
       is_above =
           subst (IsAboveOwn (record { stamp = record { number = number; sub = 0 }; client = c; seq = k.state.seq })) (sym stands.history)
           (subst (λ (n : ℕ). IsAboveOwn (record { stamp = record { number = n; sub = 0 }; client = c; seq = k.state.seq }) s.history) (sym number_is)
-          (subst (λ (q : ℕ). IsAboveOwn (record { stamp = record { number = next_number now; sub = 0 }; client = c; seq = q }) s.history) (sym (seq_kept c lt k here)) (enters.is_above plan s reached c now stands.switch.up posted.0 posted.1)))
+          (subst (λ (q : ℕ). IsAboveOwn (record { stamp = record { number = next_number now; sub = 0 }; client = c; seq = q }) s.history) (sym (seq_kept c lt k here)) (enters.is_above plan s reached c now (stands.switch.up is_up).up posted.0 posted.1)))
 
       new_is : record { entry = record { stamp = record { number = number; sub = 0 }; client = c; seq = k.state.seq }; pairs = None } ≡ new_entry c (next_number now) posted.0.seq
       new_is =
           ap (λ (n : ℕ). new_entry c n k.state.seq) number_is
-          ∙ ap (new_entry c (next_number now)) (seq_kept c lt k here ∙ sym (enters.seq_is plan s reached c now stands.switch.up posted.0 posted.1))
+          ∙ ap (new_entry c (next_number now)) (seq_kept c lt k here ∙ sym (enters.seq_is plan s reached c now (stands.switch.up is_up).up posted.0 posted.1))
 
       pub enters_first : (after : PlainPipeline) → rows.entered core.pipeline c ≡ Some after → (history : Recorded)
           → history ≡ record core.history { items = with_entry (record { entry = record { stamp = record { number = number; sub = 0 }; client = c; seq = k.state.seq }; pairs = None }) core.history.items }

@@ -10,7 +10,7 @@ use Rattle.catalogue.specs.Plan.{Plan}
 use Rattle.catalogue.specs.declared.actor.Actor.{Actor}
 use Rattle.catalogue.specs.declared.actor.Actor.TheVariants.{Client, Port, Stage}
 use Rattle.fabric_model.specs.Bound.{moves_left}
-use Rattle.fabric_model.specs.Driven.{has_no_loss, IsFinished, IsRound}
+use Rattle.fabric_model.specs.Driven.{IsFinished, IsRound}
 use Rattle.fabric_model.specs.Laws.{IsReached}
 use Rattle.core_model.specs.Rota.{numbers_below, rota, rotas}
 use Rattle.fabric_model.specs.Bound.{move_bound}
@@ -23,9 +23,10 @@ use Rattle.fabric_model.proofs.Either.{fits_now}
 use Rattle.fabric_model.proofs.Legal.{holds_now}
 use Rattle.fabric_model.proofs.Turns.{behind_turns, driven_parts, movers-append, movers_done, turns_are}
 use Rattle.fabric_core.specs.Racks.{Rack, StaysFrom}
+use Rattle.fabric_core.specs.RecordTexts.{IsFirstChange}
 use Rattle.fabric_core.specs.Running.{Running, state_in, stopped, taken, with_moves}
 use Rattle.fabric_core.specs.Taken.{EndsWith, IsTaken, IsTakenOn, end_with}
-use Rattle.fabric_core.specs.Turns.{EndsAs, EndsFrom, Halts, HasFailed, HasMoved, HasNoMemory, IsEnd, IsTurn, end_of}
+use Rattle.fabric_core.specs.Turns.{EndsAs, EndsFrom, Halts, HasChanged, HasFailed, HasMoved, HasNoMemory, IsEnd, IsTurn, end_of}
 use Rattle.fabric_core.specs.declared.turn.End.{End}
 use Rattle.fabric_core.specs.declared.turn.End.TheVariants as ends
 use Rattle.fabric_core.specs.declared.turn.Halt.{Halt}
@@ -34,7 +35,7 @@ use Rattle.fabric_core.specs.declared.turn.Stop.{Stop}
 use Rattle.fabric_core.specs.declared.turn.Stop.TheVariants as stops
 use Rattle.fabric_core.specs.declared.turn.Turn.{Turn}
 use Rattle.fabric_core.specs.declared.turn.Turn.TheVariants as turns
-use Rattle.fabric_core.proofs.Worlds.{IsRun}
+use Rattle.fabric_core.proofs.Worlds.{IsRun, change_still}
 
 no_moves : {R : Type 0} (run : Running R) → with_moves run [] run.rack ≡ run
 no_moves run = ap (λ (l : List Actor). record { plan = run.plan; trace = l; stop = run.stop; rack = run.rack }) (append-nil run.trace)
@@ -53,7 +54,6 @@ pub taken_run : {R : Type 0} (run : Running R) (actors : List Actor) (r : R) →
 taken_run run actors r is = record {
   reached = subst (IsReached run.plan) (sym (taken_state run actors r is)) (reached_turns run.plan (state_in run) actors is.reached);
   made = made_turns run actors is ∙ ap Some (sym (taken_state run actors r is));
-  losses = is.losses;
 }
 
 -- the test of whether all clients have finished
@@ -104,6 +104,15 @@ halts_at_once before after moves stop is = record {
 pub taken_failed : {R : Type 0} (before after : Running R) (old new : Rack) (actor : Actor) (c : ℕ) → HasFailed before after old new actor c → IsTaken before after old new (actor ∷ []) (Err (halts.LogFault c))
 taken_failed before after old new actor c f = record { takes = (halts_at_once before after (movers before.plan (state_in before) (actor ∷ [])) (Some (stops.LogFault c)) f.run, f.rose); beyond = f.beyond }
 
+pub taken_changed : {R : Type 0} (before after : Running R) (old new : Rack) (actor : Actor) (c at : ℕ) → HasChanged before after old new actor c at → IsTaken before after old new (actor ∷ []) (Err (halts.LogChanged c at))
+taken_changed before after old new actor c at h = record {
+  takes = (halts_at_once before after (movers before.plan (state_in before) (actor ∷ [])) (Some (stops.LogChanged c at)) h.run, change, h.stays.faults);
+  beyond = λ d le. h.stays.told d;
+}
+  where
+    change : IsFirstChange after.plan (state_in after) c at new
+    change = subst (λ (r : Running _). IsFirstChange r.plan (state_in r) c at new) (sym h.run) (change_still before.plan (state_in before) c at old new h.stays.told h.change)
+
 pub taken_no_memory : {R : Type 0} (before after : Running R) (old new : Rack) (actor : Actor) → before.stop ≡ None → HasNoMemory before after old new actor → IsTaken before after old new (actor ∷ []) (Err halts.NoMemory)
 taken_no_memory before after old new actor goes n = record { takes = (halts_at_once before after (movers before.plan (state_in before) (actor ∷ [])) None at_stop, n.stays.faults); beyond = λ d le. n.stays.told d }
   where
@@ -120,6 +129,9 @@ taken_turn before after old new actor turn b same is t (inr e) racks =
 
 pub turn_failed : {R : Type 0} (before after : Running R) (old new : Rack) (actor : Actor) (turn : Turn) → IsTurn before after old new actor turn → (c : ℕ) → turn ≡ turns.LogFault c → IsTaken before after old new (actor ∷ []) (Err (halts.LogFault c))
 turn_failed before after old new actor turn t c e = taken_failed before after old new actor c (subst (IsTurn before after old new actor) e t)
+
+pub turn_changed : {R : Type 0} (before after : Running R) (old new : Rack) (actor : Actor) (turn : Turn) → IsTurn before after old new actor turn → (c at : ℕ) → turn ≡ turns.LogChanged c at → IsTaken before after old new (actor ∷ []) (Err (halts.LogChanged c at))
+turn_changed before after old new actor turn t c at e = taken_changed before after old new actor c at (subst (IsTurn before after old new actor) e t)
 
 pub turn_lacks : {R : Type 0} (before after : Running R) (old new : Rack) (actor : Actor) (turn : Turn) → IsTurn before after old new actor turn → before.stop ≡ None → turn ≡ turns.NoMemory → IsTaken before after old new (actor ∷ []) (Err halts.NoMemory)
 turn_lacks before after old new actor turn t goes e = taken_no_memory before after old new actor goes (subst (IsTurn before after old new actor) e t)
@@ -174,6 +186,7 @@ behind_halts part more left whole old now next stop first before b split h = rec
 behind_ends : {R : Type 0} (part more left whole : List Actor) (old now next : Running R) (halt : Halt) (first before after : Rack) → IsBehind left whole old now first before → left ≡ part ++ more → EndsWith now next before after part halt → EndsWith old next first after whole halt
 behind_ends part more left whole old now next (halts.LogFault c) first before after b split e =
     (behind_halts part more left whole old now next (Some (stops.LogFault c)) first before b split e.0, subst (λ (n : ℕ). Rose n after.faults) b.faults e.1)
+behind_ends part more left whole old now next (halts.LogChanged c at) first before after b split e = (behind_halts part more left whole old now next (Some (stops.LogChanged c at)) first before b split e.0, e.1, e.2 ∙ b.faults)
 behind_ends part more left whole old now next halts.NoMemory first before after b split e = (behind_halts part more left whole old now next None first before b split e.0, e.1 ∙ b.faults)
 
 behind_done : {R : Type 0} (whole : List Actor) (old now : Running R) (first before : Rack) → IsBehind [] whole old now first before → now ≡ with_moves old whole now.rack
@@ -287,8 +300,8 @@ listed_next actors i d lt = drop-cons actors i d lt ∙ ap (λ (k : ℕ). get_or
 -- ---- rotas
 
 -- where the rota is taken again and again, taking it once more first changes nothing
-round_on : (plan : Plan) (s : State) → has_no_loss plan ≡ true → IsReached plan s → all_finished s ≡ false → driven_from plan s [] ≡ movers plan s (rota plan) ++ driven_from plan (after_turns plan s (rota plan)) []
-round_on plan s losses reached more =
+round_on : (plan : Plan) (s : State) → IsReached plan s → all_finished s ≡ false → driven_from plan s [] ≡ movers plan s (rota plan) ++ driven_from plan (after_turns plan s (rota plan)) []
+round_on plan s reached more =
     let round : IsRound plan s = round_of plan (fits_now plan (holds_now plan)) (holds_now plan) s reached more in
     round.driven ∙ ap (λ (z : State). movers plan s (rota plan) ++ driven_from plan z []) (sym (turns_are plan s round.next (rota plan) round.run))
 
@@ -305,7 +318,7 @@ driving_begins old rack is goes = behind_first _ _ old rack is goes refl
 
 module _ {R : Type 0} (old now next : Running R) (first before after : Rack) (b : Bool) (is : IsDriving old now first before) (test : IsTrue b ↔ IsFinished (state_in now)) (more : b ≡ false) where
   rest_is : driven_from now.plan (state_in now) [] ≡ movers now.plan (state_in now) (rota now.plan) ++ driven_from now.plan (after_turns now.plan (state_in now) (rota now.plan)) []
-  rest_is = round_on now.plan (state_in now) is.run.losses is.run.reached (finished_test (state_in now) b test ∙ more)
+  rest_is = round_on now.plan (state_in now) is.run.reached (finished_test (state_in now) b test ∙ more)
 
   pub driving_round : IsTaken now next before after (rota now.plan) (Ok tt) → IsDriving old next first after
   driving_round t = subst (λ (l : List Actor). IsBehind l (driven_from old.plan (state_in old) []) old next first after) (sym left_next)
@@ -351,6 +364,7 @@ ended_on old now first last goes t = record { ends = subst (λ (o : Option Stop)
 
 ends_early : {R : Type 0} (old now : Running R) (first last : Rack) (moves : List Actor) (halt : Halt) → EndsWith old now first last moves halt → EndsAs old now first last moves (end_with halt)
 ends_early old now first last moves (halts.LogFault c) e = e
+ends_early old now first last moves (halts.LogChanged c at) e = e
 ends_early old now first last moves halts.NoMemory e = e
 
 pub halted_on : {R : Type 0} (old now : Running R) (first last : Rack) (halt : Halt) (end : End) → old.stop ≡ None → end ≡ end_with halt → IsTakenOn old now first last (Err halt) → IsEnd old now first last (driven_from old.plan (state_in old) []) end
@@ -403,4 +417,5 @@ module _ {R : Type 0} (old now : Running R) (first before : Rack) (actors : List
       by : (x : End) → EndsAs now last before after (driven_from now.plan (state_in now) []) x → EndsAs old last first after (driven_from old.plan (state_in old) actors) x
       by ends.Finished d = (record { run = d.0.run ∙ ap (λ (r : Running R). with_moves r (driven_from now.plan (state_in now) []) last.rack) behind.is ∙ more_moves old behind.made _ last.rack now.rack ∙ ap (λ (l : List Actor). with_moves old l last.rack) behind.parts; finished = d.0.finished }, d.1 ∙ behind.faults)
       by (ends.LogFault c) h = (behind_halts _ [] _ _ old now last (Some (stops.LogFault c)) first before behind none_left h.0, subst (λ (n : ℕ). Rose n after.faults) behind.faults h.1)
+      by (ends.LogChanged c at) h = (behind_halts _ [] _ _ old now last (Some (stops.LogChanged c at)) first before behind none_left h.0, h.1, h.2 ∙ behind.faults)
       by ends.NoMemory h = (behind_halts _ [] _ _ old now last None first before behind none_left h.0, h.1 ∙ behind.faults)

@@ -4,6 +4,7 @@ pub mod Drafts
 pub mod Held
 pub mod Kept
 pub mod Racks
+pub mod Recovering
 pub mod RecordTexts
 pub mod Running
 pub mod Slots

@@ -1,5 +1,5 @@
 -- When what the code keeps of a run stands for a state of the model.
-use Rattle.std.specs.Prelude.{◌≡◌, ◌<◌, ◌≤◌, ◌+◌, ◌*◌, ◌&&◌, ℕ, List, length, not, true, is_some, slice_index_or, Option, Some}
+use Rattle.std.specs.Prelude.{◌≡◌, ◌<◌, ◌≤◌, ◌+◌, ◌*◌, ◌&&◌, ℕ, Bool, List, length, not, true, false, is_some, slice_index_or, Option, Some, None}
 use Rattle.std.specs.FinMap as fin
 use Rattle.txn_model.specs.declared.op.TupleId.{TupleId}
 use Rattle.stage_layout.specs.Late.{is_hot}
@@ -11,6 +11,7 @@ use Rattle.catalogue.specs.declared.actor.Actor.TheVariants.{Client}
 use Rattle.host_locks.specs.Locks.{has_tuple}
 use Rattle.switch_model.specs.Switch.{Switch}
 use Rattle.pipeline.specs.Plain.{PlainPipeline}
+use Rattle.pipeline.specs.Rows.{erased}
 use Rattle.pipeline.specs.Shows.{Shows}
 use Rattle.log_records.specs.Records.{PlainRecords}
 use Rattle.core_model.specs.State.{ClientState, at_item, script_now, zero_stamp}
@@ -18,7 +19,6 @@ use Rattle.history_core.specs.Runs.{runs_of}
 use Rattle.client_phase.specs.NextAction.{next_action}
 use Rattle.client_phase.specs.Shown.{plain_client, room_of, shown}
 use Rattle.client_phase.specs.declared.action.Action.{Action}
-use Rattle.fabric_model.specs.Driven.{has_no_loss}
 use Rattle.fabric_model.specs.Laws.{IsReached}
 use Rattle.fabric_model.specs.State.{Records, State, client_at, no_records}
 use Rattle.fabric_model.specs.Step.{step}
@@ -58,12 +58,24 @@ pub record IsUp (plan : Plan) (switch : Option Switch) (pipeline : PlainPipeline
   pub up : switch ≡ Some now
   pub shows : Shows plan.shape pipeline now
 
+-- the switch is lost, and the pipeline has what is left then
+pub record IsLost (plan : Plan) (switch : Option Switch) (pipeline : PlainPipeline) : Type 0 where
+  pub lost : switch ≡ None
+  pub erased : pipeline ≡ erased pipeline
+  pub shape : pipeline.shape ≡ plan.shape
+  pub clients : length pipeline.waiting ≡ length plan.clients
+
+-- the switch is up exactly where the code says so
+pub record IsSwitch (plan : Plan) (switch : Option Switch) (is_up : Bool) (pipeline : PlainPipeline) : Type 0 where
+  pub up : is_up ≡ true → IsUp plan switch pipeline
+  pub lost : is_up ≡ false → IsLost plan switch pipeline
+
 -- the code has the state's clients, logs, switch, locks, store, history and refusals, and room for all that may come; locks are
 -- those of the tuples on hosts
 pub record StandsFor (plan : Plan) (s : State) (core : CoreState) : Type 0 where
   pub runners : AreRunners plan s.clients core.runners.items
   pub logs : AreLogs plan s.logs core.logs.items
-  pub switch : IsUp plan s.switch core.pipeline
+  pub switch : IsSwitch plan s.switch core.is_up core.pipeline
   pub locks : HasLocks plan s core.locks
   pub tuples : (t : TupleId) → has_tuple core.locks t ≡ (is_some (fin.get plan.tuples t) && not (is_hot plan.layout t))
   pub store : core.store ≡ s.store
@@ -73,13 +85,11 @@ pub record StandsFor (plan : Plan) (s : State) (core : CoreState) : Type 0 where
   pub refused : plan.tries * item_count plan ≤ length core.refusals.items + core.refusals.spare
   pub draft : HasDraftRoom core.draft
 
--- it is the turn of one of the actors of a session without losses, and the code stands for a state that is reached, behind this many
--- moves
+-- it is the turn of one of the session's actors, and the code stands for a state that is reached, behind this many moves
 pub record IsTurnIn (plan : Plan) (core : CoreState) (actor : Actor) (at : ℕ) (s : State) : Type 0 where
   pub reached : IsReached plan s
   pub stands : StandsFor plan s core
   pub within : IsActor plan actor
-  pub losses : has_no_loss plan ≡ true
   pub moves : s.moves ≡ at
 
 -- it is the turn of a client at this item, and this is its next action

@@ -31,6 +31,8 @@ use txn_model::Items;
 pub(crate) struct CoreState {
     pub runners: Vec<Runner>,
     pub logs: Vec<ClientLog>,
+    /// Whether the switch is up. While it is lost, the pipeline is empty.
+    pub is_up: bool,
     pub pipeline: Pipeline,
     pub locks: LockTable,
     pub store: HostStore,
@@ -59,8 +61,7 @@ impl CoreState {
             Actor::Client(client) => self.step(alloc, rack, session, client, at),
             Actor::Port(client) => turn_if(self.enter_port(session, client)),
             Actor::Stage(stage) => turn_if(self.advance(session, stage)),
-            // The switch isn't lost.
-            Actor::Recover => Turn::Idle,
+            Actor::Recover => self.recover(alloc, rack, session),
         }
     }
 
@@ -83,7 +84,7 @@ impl CoreState {
             return Turn::Idle;
         };
         let Item::Run(script) = item else {
-            return Turn::Idle;
+            return turn_if(self.lose(session, item, client));
         };
         match runner.action(item) {
             Action::Lock(number) => self.ask(session, item, script, client, number, at),
@@ -92,7 +93,7 @@ impl CoreState {
             Action::LogIntent => {
                 return self.log_intent(alloc, rack, session, item, script, client);
             }
-            Action::Post => self.post(session, item, client),
+            Action::Post => return turn_if(self.post(session, item, client)),
             Action::LogOutcome => {
                 return self.take_answer(alloc, rack, session, item, script, client);
             }

@@ -33,6 +33,7 @@ impl CoreState {
         Ok(CoreState {
             runners: first_runners(alloc, session)?,
             logs: first_logs(alloc, session)?,
+            is_up: true,
             pipeline: Pipeline::fresh(
                 alloc,
                 &session.shape,

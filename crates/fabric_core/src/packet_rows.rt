@@ -71,18 +71,23 @@ impl CoreState {
         Turn::Moved
     }
 
-    /// Posts the packet that stands last in the client's log.
-    pub fn post(&mut self, session: &Session, item: &Item, client: u8)
+    /// Posts the packet that stands last in the client's log; false where the switch is lost.
+    pub fn post(&mut self, session: &Session, item: &Item, client: u8) -> bool
         requires action { (s : State) × (at : ℕ) × IsActionIn (plan_of session.now) self.old client at (plain_item item.now) Action.Post s }
-        ensures follows { (s : State) (at : ℕ) → IsActionIn (plan_of session.now) self.old client at (plain_item item.now) Action.Post s
-            → Follows (plan_of session.now) s (Client client) self.new }
+        ensures turn { (s : State) (at : ℕ) → IsActionIn (plan_of session.now) self.old client at (plain_item item.now) Action.Post s
+            → MatchBool result (Follows (plan_of session.now) s (Client client) self.new)
+            ((model.step (plan_of session.now) s (Client client) ≡ None) × (self.new ≡ self.old)) }
         ensures logs { self.new.logs ≡ self.old.logs }
     {
+        if !self.is_up {
+            return false;
+        }
         self.runners[client as usize].step(session, item, client, Action::Post, Met::Done);
         let intent = self.logs[client as usize].last_intent();
         self.draft.text.clear();
         encode_into(&intent.packet, &mut self.draft.text);
         self.pipeline.post(client, self.draft.text.as_slice());
+        true
     }
 
     /// Takes the answer to the client's packet, where there is one: number and pairs go into its log, and
@@ -102,6 +107,9 @@ impl CoreState {
             → IsTurnOf (plan_of session.now) s (Client client) self.old self.new (seen (L.told rack.old) (L.keeps rack.old) (L.faults rack.old)) (seen (L.told rack.new) (L.keeps rack.new) (L.faults rack.new)) result }
         ensures idle { result ≡ Turn.Idle → rack.new ≡ rack.old }
     {
+        if !self.is_up {
+            return Turn::Idle;
+        }
         let seq = self.runners[client as usize].state.seq;
         let Some(number) = self.pipeline.answer_number(client) else {
             return Turn::Idle;
@@ -132,7 +140,7 @@ impl CoreState {
         Turn::Moved
     }
 
-    /// Lets the packet of a client enter the switch; false where it can't. At its first entry it gets its
+    /// Lets the packet of a client enter the switch; false where it can't, or the switch is lost. At its first entry it gets its
     /// number, and an unanswered entry of its transaction goes into the history.
     pub fn enter_port(&mut self, session: &Session, client: u8) -> bool
         requires { (s : State) × (at : ℕ) × IsTurnIn (plan_of session.now) self.old (Port client) at s }
@@ -141,6 +149,9 @@ impl CoreState {
             ((model.step (plan_of session.now) s (Port client) ≡ None) × (self.new ≡ self.old)) }
         ensures logs { self.new.logs ≡ self.old.logs }
     {
+        if !self.is_up {
+            return false;
+        }
         let number = self.pipeline.next_number();
         let pass = self.pipeline.waits_for(client);
         if let Step::Idle = self.pipeline.enter(client) {
@@ -154,7 +165,8 @@ impl CoreState {
         true
     }
 
-    /// Lets the packet at a stage be executed and go on; false where there is none, or it can't.
+    /// Lets the packet at a stage be executed and go on; false where there is none, it can't, or the switch is
+    /// lost.
     pub fn advance(&mut self, session: &Session, stage: u8) -> bool
         requires { (s : State) × (at : ℕ) × IsTurnIn (plan_of session.now) self.old (Stage stage) at s }
         ensures turn { (s : State) (at : ℕ) → IsTurnIn (plan_of session.now) self.old (Stage stage) at s
@@ -162,6 +174,9 @@ impl CoreState {
             ((model.step (plan_of session.now) s (Stage stage) ≡ None) × (self.new ≡ self.old)) }
         ensures logs { self.new.logs ≡ self.old.logs }
     {
+        if !self.is_up {
+            return false;
+        }
         matches!(self.pipeline.advance(stage), Step::Moved)
     }
 }

@@ -12,6 +12,10 @@ use catalogue::{Item, Session};
 use txn_model::Script;
 use warm_split::{OpSet, Parts, hot_plan, split};
 
+/// No run of any session makes more moves. To reserve so many is cheaper than to sum up a session's own
+/// bound, for which each operation is looked up; of what is reserved nothing is touched before it is used.
+pub(crate) const MOST_MOVES: usize = 2_039_808;
+
 /// A bound on the moves of a run, as a sum over the session's items: no run makes more.
 pub fn move_bound(session: &Session) -> u32
     requires { IsSound (plan_of session.now) }

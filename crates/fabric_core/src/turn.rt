@@ -11,10 +11,13 @@ pub enum Turn {
     Moved,
     /// It can't move now, and nothing changed.
     Idle,
-    /// The record of this client, whose turn it was, could not be appended to its log: the rack counted a
-    /// failure. State and trace stay, and the world has stopped.
+    /// The record of this client, whose turn it was, could not be appended to its log, or at recovery the log
+    /// could not be read: the rack counted a failure. State and trace stay, and the world has stopped.
     LogFault(u8),
-    /// No memory was left to append a record. State, logs and trace stay.
+    /// At recovery the log of this client is the first that is not what the client wrote, from this place on.
+    /// State and trace stay, and the world has stopped.
+    LogChanged(u8, u64),
+    /// No memory was left to append a record, or to recover. State, logs and trace stay.
     NoMemory,
 }
 
@@ -23,17 +26,22 @@ pub enum Turn {
 pub enum End {
     /// No client has anything left to do.
     Finished,
-    /// The world has stopped, since a record of this client could not be appended.
+    /// The world has stopped, since a record of this client could not be appended, or its log not be read.
     LogFault(u8),
-    /// No memory was left to append a record. The turns before that stand, and the run can go on.
+    /// The world has stopped, since the log of this client is not what the client wrote, from this place on.
+    LogChanged(u8, u64),
+    /// No memory was left to append a record, or to recover. The turns before that stand, and the run can go
+    /// on.
     NoMemory,
 }
 
 /// Why a world takes no more turns.
 #[derive(Clone, Copy, Debug, PartialEq, Eq)]
 pub enum Stop {
-    /// A record of this client could not be appended.
+    /// A record of this client could not be appended, or its log could not be read at recovery.
     LogFault(u8),
+    /// The log of this client was not what the client wrote, from this place on, when recovery compared it.
+    LogChanged(u8, u64),
 }
 
 /// Why no world began.
@@ -48,9 +56,11 @@ pub enum BeginFault {
 /// Why turns that were to be taken one after another end early.
 #[derive(Clone, Copy, Debug, PartialEq, Eq)]
 pub(crate) enum Halt {
-    /// The world has stopped, since a record of this client could not be appended.
+    /// The world has stopped, since a record of this client could not be appended, or its log not be read.
     LogFault(u8),
-    /// No memory was left to append a record.
+    /// The world has stopped, since the log of this client has changed at this place.
+    LogChanged(u8, u64),
+    /// No memory was left to append a record, or to recover.
     NoMemory,
 }
 
@@ -61,6 +71,7 @@ impl Stop {
     {
         match self {
             Stop::LogFault(client) => End::LogFault(client),
+            Stop::LogChanged(client, at) => End::LogChanged(client, at),
         }
     }
 }
@@ -72,6 +83,7 @@ impl Halt {
     {
         match self {
             Halt::LogFault(client) => End::LogFault(client),
+            Halt::LogChanged(client, at) => End::LogChanged(client, at),
             Halt::NoMemory => End::NoMemory,
         }
     }

@@ -9,7 +9,7 @@ ghost use Rattle.catalogue.specs.Sound.{IsSound, IsActor};
 ghost use Rattle.catalogue.specs.declared.actor.Actor.TheVariants.{Client, Port, Stage};
 ghost use Rattle.core_model.specs.Rota.{is_finished, numbers_below, rota};
 ghost use Rattle.fabric_model.specs.Bound.{move_bound};
-ghost use Rattle.fabric_model.specs.Driven.{has_no_loss, IsFinished};
+ghost use Rattle.fabric_model.specs.Driven.{IsFinished};
 ghost use Rattle.fabric_model.specs.Ends as ends;
 ghost use Rattle.fabric_model.specs.Laws.{IsReached, tuple_now};
 ghost use Rattle.fabric_model.specs.Rota.{driven_from};
@@ -29,7 +29,7 @@ use crate::core_state::CoreState;
 use crate::ends::{loss_end, script_end};
 use crate::name::RunName;
 use crate::resets::reset_logs;
-use crate::room::move_bound;
+use crate::room::MOST_MOVES;
 use crate::runner::Runner;
 use crate::turn::{BeginFault, End, Halt, Stop, Turn};
 use catalogue::{Actor, Actors, Item, Session};
@@ -45,7 +45,8 @@ use txn_model::{Items, NoMemory, TupleId};
 /// The name is a part of the type, so that a world that comes back from elsewhere is still a run of the
 /// same session. Where the rack kept when the run began, each client's log is told as the text of its
 /// records. Once a record could not be appended the world has stopped: only the log of that client may
-/// then go on, with a front of that record's text.
+/// then go on, with a front of that record's text. A world has stopped, too, where at recovery a log could
+/// not be read, or was not the text of its records; the latter never over a rack that keeps.
 #[derive(Drop)]
 pub struct World<L: LogRack, N: RunName> {
     session: Session,
@@ -76,12 +77,10 @@ impl<L: LogRack, N: RunName> Model for World<L, N> {
 
 impl<L: LogRack, N: RunName> World<L, N> {
     /// Takes all room that the run of a session needs, and then empties the logs of its clients in order.
-    /// After this no call of the world takes memory, but for what its rack takes to append. Today no item of
-    /// the session loses the switch. After a fault the logs are handed back; where memory ran out, as they
-    /// were.
+    /// After this no call of the world takes memory, but for what its rack takes to append, and what recovery
+    /// takes. After a fault the logs are handed back; where memory ran out, as they were.
     pub fn begin(alloc: Global, session: Session, rack: L) -> Result<World<L, N>, (L, BeginFault)>
         requires sound { IsSound (plan_of session) }
-        requires losses { has_no_loss (plan_of session) ≡ true }
 
         // The run is named after its session and its rack.
         requires named { plan_of session ≡ N.session }
@@ -126,6 +125,7 @@ impl<L: LogRack, N: RunName> World<L, N> {
         match turn {
             Turn::Moved => self.trace.push(actor),
             Turn::LogFault(client) => self.stop = Some(Stop::LogFault(client)),
+            Turn::LogChanged(client, at) => self.stop = Some(Stop::LogChanged(client, at)),
             Turn::Idle | Turn::NoMemory => {}
         }
         turn
@@ -244,15 +244,16 @@ impl<L: LogRack, N: RunName> World<L, N> {
         match self.turn(alloc, actor) {
             Turn::Moved | Turn::Idle => Ok(()),
             Turn::LogFault(client) => Err(Halt::LogFault(client)),
+            Turn::LogChanged(client, at) => Err(Halt::LogChanged(client, at)),
             Turn::NoMemory => Err(Halt::NoMemory),
         }
     }
 
-    /// Whether no client has anything left to do. The switch is always up.
+    /// Whether no client has anything left to do, and the switch is up.
     pub fn finished(&self) -> bool
         ensures { IsTrue result ↔ IsFinished (state_in self.now) }
     {
-        have_finished(self.core.runners.as_slice())
+        self.core.is_up && have_finished(self.core.runners.as_slice())
     }
 
     /// What is run.
@@ -260,7 +261,6 @@ impl<L: LogRack, N: RunName> World<L, N> {
         ensures plan { plan_of result.now ≡ self.now.plan }
         ensures named { self.now.plan ≡ N.session }
         ensures sound { IsSound self.now.plan }
-        ensures losses { has_no_loss self.now.plan ≡ true }
     {
         &self.session
     }
@@ -356,7 +356,7 @@ fn room_of(alloc: Global, session: &Session) -> Result<(CoreState, Actors), NoMe
     ensures space { IfOk result (λ room. move_bound (plan_of session.now) ≤ room.1.spare) }
 {
     let core = CoreState::opening(alloc, session)?;
-    let trace = Vec::with_capacity(alloc, move_bound(session) as usize)?;
+    let trace = Vec::with_capacity(alloc, MOST_MOVES)?;
     Ok((core, Items::of(trace)))
 }
 

@@ -11,6 +11,7 @@ use Rattle.catalogue.specs.Sound.{item_count}
 use Rattle.fabric_model.specs.Run.{opening}
 use Rattle.fabric_core.proofs.Held.{locks_at_opening}
 use Rattle.fabric_core.proofs.Openings.{host_tuples, first_store, ascend_as, fst_as}
+use Rattle.fabric_core.proofs.Switches.{is_switch}
 use Rattle.fabric_core.proofs.core_state.CoreState.opening.Goals as goal
 
 pub of-requires : goal.of-requires
@@ -23,12 +24,12 @@ returns c =
     record {
       runners = c.in_ok-first_runners.ensures;
       logs = c.in_ok-first_logs.ensures;
-      switch = record {
+      switch = is_switch refl (record {
         now = fresh_switch (hot_cells plan) (length plan.clients);
         up = refl;
         shows = subst (λ (seen : PlainPipeline). Shows plan.shape seen (fresh_switch (hot_cells plan) (length plan.clients)))
             (sym (c.in_ok-fresh.ensures ∙ ap (λ (n : ℕ). fresh_pipeline plan.shape (hot_cells plan) n) c.clients.ensures.value)) (fresh_shown plan.shape (hot_cells plan) (length plan.clients));
-      };
+      });
       locks = locks_at_opening plan c.in_ok-fresh-2.field-0 c.in_ok-fresh-2.ensures.free;
       tuples = λ t. c.in_ok-fresh-2.ensures.tuples t ∙ host_tuples plan t c.as_slice-2.result.now c.requires (c.as_slice-2.ensures.value ∙ c.in_ok-ids.ensures ∙ fst_as plan c.as_slice.result.now (c.as_slice.ensures.value ∙ c.in_ok-rows.ensures));
       store = first_store plan c.as_slice-3.result.now c.in_ok-of.field-0 c.in_ok-fresh-3.field-0 (c.as_slice-3.ensures.value ∙ c.in_ok-rows.ensures) c.in_ok-of.ensures c.in_ok-fresh-3.ensures;

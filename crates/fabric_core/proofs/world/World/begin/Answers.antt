@@ -17,7 +17,7 @@ invariant_of-result g c =
     let kept = λ (k : IsTrue g.N.RunName.kept). subst (λ (b : Bool). IsTrue b) (sym c.requires.kept) k in
     kept_first g.N.RunName.session (plan_of c.args.session) g.N.RunName.faults (IsTrue g.N.RunName.kept) c.in-Ok.room.0 c.in-Ok.room.1
     (seen (g.L.LogRack.told c.reset_logs.new.rack) (g.L.LogRack.keeps c.reset_logs.new.rack) (g.L.LogRack.faults c.reset_logs.new.rack))
-    c.requires.named c.requires.sound c.requires.losses c.in-Ok.ensures.core c.in-Ok.ensures.trace c.in-Ok.ensures.space
+    c.requires.named c.requires.sound c.in-Ok.ensures.core c.in-Ok.ensures.trace c.in-Ok.ensures.space
     (λ k. c.in_default.ensures.reset.keeps (kept k)) (λ k d lt. c.in_default.ensures.reset.empty (kept k) d (omega (arith, lt, c.clients.ensures.value))) (c.in_default.ensures.reset.faults ∙ c.requires.faults)
 
 pub returns-clause-beyond : goal.returns-clause-beyond

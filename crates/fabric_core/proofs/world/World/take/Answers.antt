@@ -15,5 +15,8 @@ returns-in-Moved g c =
 pub returns-in-LogFault : goal.returns-in-LogFault
 returns-in-LogFault g c = takes.turn_failed c.args.self.now c.turn.new.self _ _ c.args.actor c.turn.result c.turn.ensures c.in-LogFault.client c.in-LogFault.is
 
+pub returns-in-LogChanged : goal.returns-in-LogChanged
+returns-in-LogChanged g c = takes.turn_changed c.args.self.now c.turn.new.self _ _ c.args.actor c.turn.result c.turn.ensures c.in-LogChanged.client c.in-LogChanged.at c.in-LogChanged.is
+
 pub returns-in-NoMemory : goal.returns-in-NoMemory
 returns-in-NoMemory g c = takes.turn_lacks c.args.self.now c.turn.new.self _ _ c.args.actor c.turn.result c.turn.ensures c.requires.goes_on c.in-NoMemory.is

@@ -34,7 +34,15 @@ invariant_of-self-in-LogFault g c =
     let goes = ap (λ (r : Running _). r.stop) c.self.view_is ∙ c.requires.goes_on in
     let turn = c.turn-turn.ensures.turn (state_now (plan_of c.self.inside.session) c.self.inside.trace.items) (worlds.its_turn c.self.invariant c.args.actor c.len-at.result within c.len-at.ensures) in
     let fails = worlds.fails c.self.invariant c.self.inside.rack c.turn-turn.new.rack c.args.actor c.turn-turn.new.self _ c.turn-turn.result turn c.in-LogFault.client c.in-LogFault.is in
-    worlds.kept_failed c.self.invariant goes c.in-LogFault.client c.turn-turn.new.self _ fails.1
+    worlds.kept_failed c.self.invariant goes c.args.actor c.in-LogFault.client c.turn-turn.new.self _ fails
+
+pub invariant_of-self-in-LogChanged : goal.invariant_of-self-in-LogChanged
+invariant_of-self-in-LogChanged g c =
+    let within = rw (← c.self.view_is) at c.requires.actor in
+    let goes = ap (λ (r : Running _). r.stop) c.self.view_is ∙ c.requires.goes_on in
+    let turn = c.turn-turn.ensures.turn (state_now (plan_of c.self.inside.session) c.self.inside.trace.items) (worlds.its_turn c.self.invariant c.args.actor c.len-at.result within c.len-at.ensures) in
+    let changes = worlds.changes c.self.invariant c.self.inside.rack c.turn-turn.new.rack c.args.actor c.turn-turn.new.self _ c.turn-turn.result turn c.in-LogChanged.client c.in-LogChanged.at c.in-LogChanged.is in
+    worlds.kept_changed c.self.invariant goes c.in-LogChanged.client c.in-LogChanged.at c.turn-turn.new.self _ changes.1
 
 pub invariant_of-self-in-Idle : goal.invariant_of-self-in-Idle
 invariant_of-self-in-Idle g c =
@@ -55,6 +63,12 @@ returns-in-LogFault g c =
     let within = rw (← c.self.view_is) at c.requires.actor in
     let turn = c.turn-turn.ensures.turn (state_now (plan_of c.self.inside.session) c.self.inside.trace.items) (worlds.its_turn c.self.invariant c.args.actor c.len-at.result within c.len-at.ensures) in
     rw (← c.self.view_is) (worlds.says_failed c.self.invariant c.self.inside.rack c.turn-turn.new.rack c.args.actor c.turn-turn.new.self _ c.turn-turn.result turn c.in-LogFault.client c.in-LogFault.is)
+
+pub returns-in-LogChanged : goal.returns-in-LogChanged
+returns-in-LogChanged g c =
+    let within = rw (← c.self.view_is) at c.requires.actor in
+    let turn = c.turn-turn.ensures.turn (state_now (plan_of c.self.inside.session) c.self.inside.trace.items) (worlds.its_turn c.self.invariant c.args.actor c.len-at.result within c.len-at.ensures) in
+    rw (← c.self.view_is) (worlds.says_changed c.self.invariant c.self.inside.rack c.turn-turn.new.rack c.args.actor c.turn-turn.new.self _ c.turn-turn.result turn c.in-LogChanged.client c.in-LogChanged.at c.in-LogChanged.is)
 
 pub returns-in-Idle : goal.returns-in-Idle
 returns-in-Idle g c =
