@@ -1,7 +1,8 @@
 //! The program `p4db`: hands its words and the process's streams to the library's top call.
 #![tactic(auto)]
 
-use p4db_top::{Note, command};
+use client_gate::OpenGate;
+use p4db_top::{Note, top};
 use port_io::{FileRack, StdSink, StdSource, Word};
 use std::io::ErrorKind;
 use std::process::ExitCode;
@@ -27,21 +28,27 @@ fn note_of(error: io::Error) -> Note {
     }
 }
 
-/// What the library answers to the words and to standard input.
-fn answer(rt: &HostRuntime) -> Note {
-    match words_of(rt) {
+fn main(rt: HostRuntime) -> ExitCode {
+    let note = match words_of(&rt) {
         Ok(words) => {
-            let mut source = StdSource::fresh(rt);
-            let mut sink = StdSink::fresh(rt);
-            let logs = FileRack::at(rt, LOGS);
-            command(rt.alloc(), words.as_slice(), &mut source, &mut sink, logs).note
+            let mut source = StdSource::fresh(&rt);
+            let mut sink = StdSink::fresh(&rt);
+            let logs = FileRack::at(&rt, LOGS);
+            let gate = OpenGate;
+            top(
+                &rt,
+                rt.alloc(),
+                words.as_slice(),
+                &mut source,
+                &mut sink,
+                logs,
+                &gate,
+            )
+            .note
         }
         Err(note) => note,
-    }
-}
+    };
 
-fn main(rt: HostRuntime) -> ExitCode {
-    let note = answer(&rt);
     // Where the line can't be written, the status still tells.
     let _ = rt.eprint(note);
     ExitCode::from(note.status())

@@ -1,17 +1,17 @@
--- A finished run of a session is serial, has each item once, and its aborts have causes.
-use Rattle.std.proofs.Common.{◌≡◌, ◌≢◌, ℕ, zero, suc, ◌+◌, ◌-◌, ◌<◌, ◌≤◌, ◌==◌, ◌&&◌, Bool, true, false, cond, if◌then◌else◌, List, [], ◌∷◌, ◌++◌, map, filter, find, length, reverse, slice_get, get_or, Option, Some, None, IsSome, is_some, unwrap_or, refl, sym, ap, subst, ◌∙◌, arith}
+-- A finished run of a session is serial, has each item once, its aborts have causes, and its answers stand.
+use Rattle.std.proofs.Common.{◌≡◌, ◌≢◌, ℕ, zero, suc, ◌+◌, ◌-◌, ◌<◌, ◌≤◌, ◌==◌, ◌&&◌, Bool, true, false, cond, if◌then◌else◌, List, [], ◌∷◌, ◌++◌, map, filter, find, length, reverse, slice_get, get_or, Option, Some, None, IsSome, unwrap_or, refl, sym, ap, subst, ◌∙◌, arith}
 use Rattle.std.specs.List.{flat_map, range_with_len, list_all, list_any, AllByRecursion}
 use Rattle.std.specs.Option.{option_and_then, option_map}
 use Rattle.std.proofs.lemmas.Bool.Decides.{nat_tests}
 use Rattle.std.proofs.lemmas.List.{reverse-append}
 use Rattle.std.proofs.lemmas.List.Concat.{flat_map_single}
 use Rattle.txn_model.specs.declared.op.Op.{Op}
-use Rattle.catalogue.specs.Plan.{Plan, PlainItem, items_of, item_of, script_in, script_of, script_at, kind_of}
+use Rattle.catalogue.specs.Plan.{Plan, PlainItem, items_of, item_of, script_in, script_at, kind_of}
+use Rattle.catalogue.specs.Sound.{IsSound}
 use Rattle.catalogue.specs.declared.actor.Actor.{Actor}
 use Rattle.catalogue.specs.declared.kind.Kind.TheVariants.{Hot, Warm, Cold}
 use Rattle.stage_layout.specs.Late.{is_hot}
 use Rattle.stage_layout.specs.declared.layout.LayoutRow.{LayoutRow}
-use Rattle.history_model.specs.History.{HistoryEntry}
 use Rattle.core_model.specs.declared.phase.Phase.TheVariants.{Finished}
 use Rattle.core_model.specs.declared.refusal.Refusal.{Refusal}
 use Rattle.core_model.specs.Ends.{refused_times}
@@ -20,23 +20,25 @@ use Rattle.core_model.specs.State.{ClientState, at_item, zero_stamp}
 use Rattle.core_model.specs.declared.item_end.ItemEnd.{ItemEnd}
 use Rattle.core_model.specs.declared.item_end.ItemEnd.TheVariants.{Pending, Committed, Aborted, Lost}
 use Rattle.core_model.proofs.Decide.{item_at_place}
-use Rattle.core_model.proofs.Fewer.{each_entry}
-use Rattle.fabric_model.specs.Driven.{has_no_loss, IsFinished}
+use Rattle.fabric_model.specs.Driven.{IsFinished}
 use Rattle.fabric_model.specs.Ends.{item_end, IsEnded}
 use Rattle.fabric_model.specs.Laws.{IsReached}
 use Rattle.fabric_model.specs.Run.{state_of}
 use Rattle.fabric_model.specs.State.{State, client_at}
+use Rattle.fabric_model.proofs.Either.{up_of}
 use Rattle.fabric_model.proofs.Ended.{items_end}
 use Rattle.fabric_model.proofs.InOrder.{items_in_order}
 use Rattle.fabric_model.proofs.Legal.{holds_now, legal_when_up, values_when_up}
 use Rattle.fabric_model.proofs.Refusals.{refusals_of_run}
 use Rattle.fabric_model.proofs.Refused.{hot_are_not_refused}
 use Rattle.fabric_model.proofs.Rising.{rising_stamps}
+use Rattle.fabric_model.proofs.Stand.{answers_stand}
 use Rattle.fabric_model.proofs.StampsAbove.{stamps_above}
 use Rattle.report_text.specs.Report.{PlainEnd, EndedItem}
 use Rattle.report_text.specs.RunReport.{last_refusal, given_up, told_by, reply_to, end_told, with_end, item_told, client_told}
-use Rattle.p4db_top.specs.Serial.{IsSerial, name_of, IsOnceEach, HaveCauses}
-use Rattle.p4db_top.proofs.Placed.{IsOfItem, are_placed, are_of_items}
+use Rattle.p4db_top.specs.Serial.{IsSerial, name_of, IsOnceEach, HaveCauses, KeepsAnswers}
+use Rattle.p4db_top.proofs.Placed.{are_placed}
+use Rattle.p4db_top.proofs.Transactions.{are_transactions}
 
 -- the item with a number from 1 to the number of items
 item_there : (plan : Plan) (c seq : ℕ) → 1 ≤ seq → seq ≤ length (items_of plan c) → (item : PlainItem) × (item_of plan c seq ≡ Some item)
@@ -146,44 +148,6 @@ map-flat_map f (i ∷ l) = split (f i) (flat_map f l) ∙ ap (λ (r : List (ℕ 
     split [] b = refl
     split (x ∷ a) b = ap (λ (r : List (ℕ × ℕ)). (x.client, x.seq) ∷ r) (split a b)
 
--- each item of a session without losses is a transaction
-passes : {X : Type 0} (test : X → Bool) (l : List X) (k : ℕ) (x : X) → list_all test l ≡ true → slice_get l k ≡ Some x → test x ≡ true
-passes test [] k x all at = cc
-passes test (y ∷ l) zero x all at = ap test (same at) ∙ front (test y) (list_all test l) all
-  where
-    same : Some y ≡ Some x → x ≡ y
-    same e = cc
-
-    front : (a b : Bool) → (a && b) ≡ true → a ≡ true
-    front true b e = refl
-    front false b e = cc
-passes test (y ∷ l) (suc k) x all at = passes test l k x (rest (test y) (list_all test l) all) at
-  where
-    rest : (a b : Bool) → (a && b) ≡ true → b ≡ true
-    rest true b e = e
-    rest false b e = cc
-
-passes_at : (test : List PlainItem → Bool) (lists : List (List PlainItem)) (c : ℕ) → test [] ≡ true → list_all test lists ≡ true → test (get_or lists c []) ≡ true
-passes_at test [] c none all = none
-passes_at test (l ∷ lists) zero none all = passes test (l ∷ lists) zero l all refl
-passes_at test (l ∷ lists) (suc c) none all = passes_at test lists c none (rest (test l) (list_all test lists) all)
-  where
-    rest : (a b : Bool) → (a && b) ≡ true → b ≡ true
-    rest true b e = e
-    rest false b e = cc
-
-script_there : (plan : Plan) (c seq : ℕ) (item : PlainItem) → has_no_loss plan ≡ true → item_of plan c seq ≡ Some item → is_some (script_in item) ≡ true
-script_there plan c seq item none is = by (seq == 0) is
-  where
-    by : (b : Bool) → (if b then None else slice_get (items_of plan c) (seq - 1)) ≡ Some item → is_some (script_in item) ≡ true
-    by true e = cc
-    by false e = passes (λ i. is_some (script_in i)) (items_of plan c) (seq - 1) item (passes_at (λ items. list_all (λ i. is_some (script_in i)) items) plan.clients c refl none) e
-
-entry_is_item's : (plan : Plan) (e : HistoryEntry) → has_no_loss plan ≡ true → IsOfItem plan e → IsSome (script_of plan e.entry.client e.entry.seq)
-entry_is_item's plan e none at =
-    let found = item_there plan e.entry.client e.entry.seq at.0 at.1 in
-    subst (λ (o : Option PlainItem). IsSome (option_and_then script_in o)) (sym found.1) (script_there plan e.entry.client e.entry.seq found.0 none found.1)
-
 -- a transaction of that kind has all its tuples in the switch
 all_hot : (rows : List LayoutRow) (ops : List Op) → kind_of rows ops ≡ Hot → list_all (λ op. is_hot rows op.tuple) ops ≡ true
 all_hot rows ops = by (list_all (λ op. is_hot rows op.tuple) ops) (list_any (λ op. is_hot rows op.tuple) ops)
@@ -196,14 +160,14 @@ all_hot rows ops = by (list_all (λ op. is_hot rows op.tuple) ops) (list_any (λ
 pub run_is_serial : (plan : Plan) (s : State) → IsReached plan s → IsFinished s → IsSerial plan s
 run_is_serial plan s reached finished = record { history = legal_when_up plan s reached finished.up; values = values_when_up plan s reached finished.up finished.clients }
 
-pub run_is_once_each : (plan : Plan) (trace : List Actor) (s : State) → state_of plan trace ≡ Some s → has_no_loss plan ≡ true → IsReached plan s → IsFinished s → IsOnceEach plan trace s
-run_is_once_each plan trace s run none reached finished = record {
+pub run_is_once_each : (plan : Plan) (trace : List Actor) (s : State) → state_of plan trace ≡ Some s → IsReached plan s → IsFinished s → IsOnceEach plan trace s
+run_is_once_each plan trace s run reached finished = record {
   finished = finished;
   ended = ended plan s reached finished;
   lines =
       map-flat_map (client_told plan s) (numbers_below (length plan.clients))
       ∙ alike_from (λ c. map name_of (client_told plan s c)) (λ c. map (λ seq. (c, seq)) (range_with_len 1 (length (items_of plan c)))) 0 (length plan.clients) (λ c _ _. client_lines c);
-  entries = each_entry s.history (λ e at. entry_is_item's plan e none at) (are_of_items plan s reached);
+  entries = are_transactions plan s reached;
   in_order = (items_in_order plan (holds_now plan) s reached).ascending;
   rising = rising_stamps plan s reached;
   stamps = stamps_above plan s (record { sound = reached.sound; trace = trace; run = run });
@@ -230,3 +194,7 @@ aborts_have_causes plan trace s run reached finished = record {
     there : (o : Option PlainItem) (ops : List Op) → option_and_then script_in o ≡ Some ops → IsSome o
     there (Some item) ops is = refl
     there None ops is = cc
+
+pub keeps_answers : (plan : Plan) (trace : List Actor) → IsSound plan → KeepsAnswers plan trace
+keeps_answers plan trace sound made left actor before after parts run makes =
+    answers_stand plan before after actor (λ now up. up_of plan before (holds_now plan before (record { sound = sound; trace = made; run = run })) now up) makes

@@ -1,7 +1,11 @@
-pub mod Complete
+pub mod Transactions
 pub mod Placed
-pub mod DrivenRun
 pub mod Claims
+pub mod DrivenRun
+pub mod RacedRun
+pub mod EndedRun
 pub mod Explained
-pub mod Notes
+pub mod Complete
 pub mod Printing
+pub mod RecoveringNotes
+pub mod UnreadWords

@@ -1,37 +1,28 @@
--- Where the clients of a run stand among their items, and of which items the entries are.
-use Rattle.std.proofs.Common.{◌≡◌, ℕ, zero, suc, ◌+◌, ◌-◌, ◌<◌, ◌≤◌, ◌==◌, nat_le, Bool, true, false, List, [], ◌∷◌, ◌++◌, length, take, get_or, inl, inr, refl, sym, ap, subst, ◌∙◌, arith, if◌then◌else◌}
-use Rattle.std.specs.List.{AllByRecursion}
+-- Where the clients of a run stand among their items.
+use Rattle.std.proofs.Common.{◌≡◌, ℕ, zero, suc, ◌+◌, ◌-◌, ◌<◌, ◌≤◌, ◌==◌, nat_le, Bool, true, false, List, [], ◌∷◌, length, take, get_or, inl, inr, refl, sym, ap, subst, ◌∙◌, arith, if◌then◌else◌}
 use Rattle.std.proofs.lemmas.Bool.Decides.{nat_tests}
 use Rattle.txn_model.specs.declared.pairs.Pair.{Pair}
 use Rattle.txn_model.specs.declared.stamp.Seen.{Seen}
 use Rattle.txn_model.specs.declared.stamp.Stamp.{Stamp}
-use Rattle.history_model.specs.History.{HistoryEntry, History}
-use Rattle.history_model.specs.InOrder.{seqs_of}
 use Rattle.catalogue.specs.Plan.{Plan, PlainItem, items_of}
 use Rattle.catalogue.specs.declared.actor.Actor.{Actor}
-use Rattle.switch_model.specs.Switch.{Desk, desk_at, next_number}
+use Rattle.switch_model.specs.Switch.{desk_at, next_number}
 use Rattle.core_model.specs.declared.phase.Phase.{Phase}
 use Rattle.core_model.specs.declared.phase.Phase.TheVariants.{Ready, Locking, Aborting, Logged, Waiting, Installing, Finished}
 use Rattle.core_model.specs.Facts.{steps_now}
 use Rattle.core_model.specs.Run.{first_clients}
 use Rattle.core_model.specs.State.{ClientState, at_item, zero_stamp}
 use Rattle.core_model.specs.Step.{aborting, try_ended, next_item, installed_one}
-use Rattle.core_model.proofs.Fewer.{same_or_not}
-use Rattle.core_model.proofs.StepsOf.{all_append}
 use Rattle.fabric_model.specs.Intents.{intent_now, with_intent, with_outcome}
-use Rattle.fabric_model.specs.Laws.{IsReached, IsPast}
+use Rattle.fabric_model.specs.Laws.{IsReached}
 use Rattle.fabric_model.specs.Recovery.{waits_again, resumed}
 use Rattle.fabric_model.specs.Run.{opening}
 use Rattle.fabric_model.specs.State.{State, client_at, log_at}
 use Rattle.fabric_model.specs.Step.{lost, granted, refused, released, decided, logged, posted, taken, installed, replied}
-use Rattle.fabric_model.proofs.FewRecords.{seq_within}
-use Rattle.fabric_model.proofs.FromCore.{seqs_of-own, seqs_of-other}
-use Rattle.fabric_model.proofs.InOrder.{desk_in, Goes, Stays, Passes, Leaves, Adds, goes_of, items_in_order}
-use Rattle.fabric_model.proofs.Legal.{holds_now}
 use Rattle.fabric_model.proofs.MoveKinds.{Move, Loses, Grants, Refuses, Releases, Decides, Logs, Posts, Takes, Installs, Moved, ByClient, AtPort, AtStage, Recovers, move_of}
 use Rattle.fabric_model.proofs.PerClient.{EachClient, each_moved, each_still, each_resumed, logs_stay, logs_at_port, logs_at_stage}
-use Rattle.fabric_model.proofs.Present.{reply_to, stamp_of, clients_at_port, clients_at_stage, present_of}
-use Rattle.fabric_model.proofs.Runs.{of_reached, reached_step}
+use Rattle.fabric_model.proofs.Present.{reply_to, stamp_of, clients_at_port, clients_at_stage}
+use Rattle.fabric_model.proofs.Runs.{of_reached}
 
 -- a client is at an item from 1 on, and behind them all where it has finished
 pub record IsPlaced (plan : Plan) (c : ℕ) (x : ClientState) : Type 0 where
@@ -138,58 +129,3 @@ placed_at_opening plan c = first plan.clients c refl
 pub are_placed : (plan : Plan) (s : State) → IsReached plan s → (c : ℕ) → IsPlaced plan c (client_at s c)
 are_placed plan s reached =
     of_reached plan (AllPlaced plan) (placed_at_opening plan) (λ z next actor r all is. placed_step plan z next actor r all (move_of plan z actor next is)) s reached
-
--- ---- entries
-
-AreFromOne : State → Type 0
-AreFromOne s = (c : ℕ) → AllByRecursion (λ q. 1 ≤ q) (seqs_of c s.history)
-
-front_of : (P : ℕ → Type 0) (a b : List ℕ) → AllByRecursion P (a ++ b) → AllByRecursion P a
-front_of P [] b all = tt
-front_of P (q ∷ a) b all = (all.0, front_of P a b all.1)
-
-from_one : (x : ClientState) (desk : Desk) (y : ClientState) (desk_new : Desk) (l l_new : List ℕ) → 1 ≤ x.seq → Goes x desk y desk_new l l_new → AllByRecursion (λ q. 1 ≤ q) l → AllByRecursion (λ q. 1 ≤ q) l_new
-from_one x desk y desk_new l l_new one (Stays is same on) all = subst (AllByRecursion (λ q. 1 ≤ q)) (sym is) all
-from_one x desk y desk_new l l_new one (Passes is later) all = subst (AllByRecursion (λ q. 1 ≤ q)) (sym is) all
-from_one x desk y desk_new l l_new one (Leaves is same waits) all = front_of (λ q. 1 ≤ q) l_new (x.seq ∷ []) (subst (AllByRecursion (λ q. 1 ≤ q)) is all)
-from_one x desk y desk_new l l_new one (Adds is none same its) all = subst (AllByRecursion (λ q. 1 ≤ q)) (sym is) (all_append (λ q. 1 ≤ q) l (x.seq ∷ []) all (one, tt))
-
-none_at_first : (plan : Plan) → AreFromOne (opening plan)
-unfolding AreFromOne opening
-none_at_first plan c = tt
-
-are_from_one : (plan : Plan) (s : State) → IsReached plan s → (c : ℕ) → AllByRecursion (λ q. 1 ≤ q) (seqs_of c s.history)
-unfolding AreFromOne
-are_from_one plan s reached =
-    of_reached plan AreFromOne (none_at_first plan) (λ z next actor r all is c.
-    from_one (client_at z c) (desk_in z.switch c) (client_at next c) (desk_in next.switch c) (seqs_of c z.history) (seqs_of c next.history) (are_placed plan z r c).one (goes_of plan z next actor (holds_now plan z r) (holds_now plan next (reached_step plan z next actor r is)) (move_of plan z actor next is) c) (all c)) s reached
-
--- the entry is that of an item
-abbrev pub IsOfItem : Plan → HistoryEntry → Type 0
-IsOfItem plan e = (1 ≤ e.entry.seq) × (e.entry.seq ≤ length (items_of plan e.entry.client))
-
--- what holds of each client's entries holds of all
-of_all : (P : ℕ → ℕ → Type 0) (h : History) → ((c : ℕ) → AllByRecursion (P c) (seqs_of c h)) → AllByRecursion (λ e. P e.entry.client e.entry.seq) h
-of_all P [] all = tt
-of_all P (e ∷ h) all = ((subst (AllByRecursion (P e.entry.client)) (seqs_of-own e.entry.client e h refl) (all e.entry.client)).0, of_all P h rest)
-  where
-    rest : (c : ℕ) → AllByRecursion (P c) (seqs_of c h)
-    rest c = elim (same_or_not e.entry.client c) [
-      | inl is ↦ (subst (AllByRecursion (P c)) (seqs_of-own c e h is) (all c)).1
-      | inr other ↦ subst (AllByRecursion (P c)) (seqs_of-other c e h other) (all c)
-    ]
-
-within_items : (plan : Plan) (s : State) → IsReached plan s → (c q : ℕ) → IsPast (client_at s c) q → q ≤ length (items_of plan c)
-within_items plan s reached c q (inl before) = omega (arith, before, seq_within plan s c reached)
-within_items plan s reached c q (inr (is, inl waits)) = omega (arith, is, (present_of plan s reached c (λ f. let clash : Waiting ≡ Finished = sym waits ∙ f in cc)).1)
-within_items plan s reached c q (inr (is, inr installs)) = omega (arith, is, (present_of plan s reached c (λ f. let clash : Installing ≡ Finished = sym installs ∙ f in cc)).1)
-
-both : (P Q R : ℕ → Type 0) → ((q : ℕ) → P q → Q q → R q) → (l : List ℕ) → AllByRecursion P l → AllByRecursion Q l → AllByRecursion R l
-both P Q R f [] p q = tt
-both P Q R f (n ∷ l) p q = (f n p.0 q.0, both P Q R f l p.1 q.1)
-
-pub are_of_items : (plan : Plan) (s : State) → IsReached plan s → AllByRecursion (IsOfItem plan) s.history
-are_of_items plan s reached =
-    of_all (λ c q. (1 ≤ q) × (q ≤ length (items_of plan c))) s.history (λ c.
-    both (λ q. 1 ≤ q) (IsPast (client_at s c)) (λ q. (1 ≤ q) × (q ≤ length (items_of plan c))) (λ q one past. (one, within_items plan s reached c q past)) (seqs_of c s.history)
-    (are_from_one plan s reached c) ((items_in_order plan (holds_now plan) s reached).past c))

@@ -1,7 +1,11 @@
+pub mod Order
 pub mod Serial
 pub mod Status
 pub mod Logs
 pub mod Headline
 pub mod Ran
 pub mod Prints
+pub mod Drawing
+pub mod Layouts
+pub mod Recovering
 pub mod Commands

@@ -1,5 +1,5 @@
--- What is claimed of a finished run: one serial order, each item once, and true aborts.
-use Rattle.std.specs.Prelude.{◌≡◌, ◌≢◌, ℕ, List, map, length, Some, IsSome}
+-- What is claimed of a finished run: one serial order, each item once, true aborts, and answers that stand.
+use Rattle.std.specs.Prelude.{◌≡◌, ◌≢◌, ℕ, List, ◌∷◌, ◌++◌, map, length, Some, IsSome}
 use Rattle.std.specs.List.{flat_map, range_with_len, AllByRecursion}
 use Rattle.txn_model.specs.declared.op.Op.{Op}
 use Rattle.catalogue.specs.Plan.{Plan, items_of, item_of, script_of, kind_of}
@@ -14,8 +14,10 @@ use Rattle.fabric_model.specs.Asking.{IsTrue}
 use Rattle.fabric_model.specs.Driven.{IsFinished}
 use Rattle.fabric_model.specs.Ends.{item_end, IsEnded}
 use Rattle.fabric_model.specs.Fixed.{HasStampsAbove}
-use Rattle.fabric_model.specs.Laws.{HasLegalHistory, HasSerialValues, HasRisingStamps}
+use Rattle.fabric_model.specs.Laws.{HasLegalHistory, HasSerialValues, HasRisingStamps, AnswersStand}
+use Rattle.fabric_model.specs.Run.{state_of}
 use Rattle.fabric_model.specs.State.{State}
+use Rattle.fabric_model.specs.Step.{step}
 use Rattle.report_text.specs.Report.{EndedItem}
 use Rattle.report_text.specs.RunReport.{items_told}
 
@@ -57,3 +59,9 @@ pub record HaveCauses (session : Plan) (trace : List Actor) (s : State) : Type 0
   pub tries : (client seq : ℕ) (ops : List Op) → script_of session client seq ≡ Some ops → item_end session s client seq ≡ Aborted → refused_times client seq s.refusals ≡ session.tries
   -- no transaction whose tuples are all in the switch is aborted
   pub hot : (client seq : ℕ) (ops : List Op) → script_of session client seq ≡ Some ops → kind_of session.layout ops ≡ Hot → item_end session s client seq ≢ Aborted
+
+-- No move of the trace changes an answered entry, or takes it away: not a loss of the switch either, nor its recovery.
+abbrev pub KeepsAnswers : Plan → List Actor → Type 0
+KeepsAnswers session trace =
+    (made left : List Actor) (actor : Actor) (before after : State) → made ++ actor ∷ left ≡ trace → state_of session made ≡ Some before → step session before actor ≡ Some after
+    → AnswersStand before.history after.history

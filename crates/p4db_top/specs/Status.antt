@@ -8,7 +8,7 @@ use Rattle.session_reader.specs.declared.fault.OpAt.{OpAt}
 use Rattle.session_reader.specs.declared.fault.SessionFault.{SessionFault}
 use Rattle.session_reader.specs.declared.fault.SessionFault.TheVariants as fault
 use Rattle.p4db_top.specs.declared.note.Note.{Note}
-use Rattle.p4db_top.specs.declared.note.Note.TheVariants.{Done, Usage, ReadFault, InputTooLong, WriteFault, Session, LogFault, NotBuilt, NoMemory}
+use Rattle.p4db_top.specs.declared.note.Note.TheVariants.{Done, Usage, ReadFault, InputTooLong, WriteFault, Session, LogFault, LogChanged, LogDamaged, LogTooLong, BadIntent, NoOrder, NoMemory}
 
 abbrev pub status_of : Note → ℕ
 status_of Done = 0
@@ -18,8 +18,12 @@ status_of InputTooLong = 3
 status_of WriteFault = 4
 status_of (Session fault) = 5
 status_of (LogFault client) = 6
+status_of (LogChanged client at) = 7
+status_of (LogDamaged client at) = 7
+status_of (LogTooLong client) = 7
+status_of (BadIntent client seq) = 7
+status_of NoOrder = 8
 status_of NoMemory = 9
-status_of NotBuilt = 10
 
 abbrev pub section_word : Section → List ℕ
 section_word section.Whole = codes "whole"
@@ -71,5 +75,9 @@ line_of InputTooLong = codes "p4db: input longer than 16777216 bytes\n"
 line_of WriteFault = codes "p4db: write failed\n"
 line_of (Session fault) = codes "p4db: session fault " ++ fault_text fault ++ codes "\n"
 line_of (LogFault client) = codes "p4db: log of c" ++ decimal client ++ codes " failed\n"
+line_of (LogChanged client at) = codes "p4db: log of c" ++ decimal client ++ codes " changed at " ++ decimal at ++ codes "\n"
+line_of (LogDamaged client at) = codes "p4db: log of c" ++ decimal client ++ codes " damaged at " ++ decimal at ++ codes "\n"
+line_of (LogTooLong client) = codes "p4db: log of c" ++ decimal client ++ codes " longer than 16777216 bytes\n"
+line_of (BadIntent client seq) = codes "p4db: log of c" ++ decimal client ++ codes " item " ++ decimal seq ++ codes " names a place outside the layout\n"
+line_of NoOrder = codes "p4db: no order fits the logs\n"
 line_of NoMemory = codes "p4db: out of memory\n"
-line_of NotBuilt = codes "p4db: not built yet\n"

@@ -10,7 +10,7 @@ ghost use Rattle.p4db_top.specs.Headline.{most_input};
 ghost use Rattle.p4db_top.specs.Prints.{ExplainsPrint, Printed, IsHotText};
 
 use crate::note::Note;
-use crate::top::session_of;
+use crate::reading::session_of;
 use crate::written::print_text;
 use catalogue::Session;
 use hot_set::pick;

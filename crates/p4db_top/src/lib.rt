@@ -1,19 +1,28 @@
 //! The program's top call: words and the bytes of a source in, a report to a sink out.
 //!
-//! `command` carries the headline theorem. It knows no file and no terminal: sources, sinks and racks
+//! `command` and `top` carry the headline theorem. They know no file and no terminal: sources, sinks and racks
 //! are handed in.
 #![tactic(auto)]
 
+mod calls;
+mod closing;
 mod hot;
-mod named;
+mod layout;
+mod listed;
 mod note;
-mod top;
+mod obeying;
+mod racing;
+mod reading;
+mod recovering;
+mod running;
 mod written;
 
+pub use calls::{Ended, command, top};
 pub use note::Note;
 pub use session_reader::{Limit, OpAt, Section, SessionFault};
-pub use top::{Ended, command};
 
+#[cfg(test)]
+mod changed;
 #[cfg(test)]
 mod legal;
 #[cfg(test)]

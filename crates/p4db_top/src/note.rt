@@ -1,6 +1,6 @@
 //! How a call of the program ended.
 
-ghost use Rattle.std.specs.Prelude.{◌≡◌, ◌++◌, Some};
+ghost use Rattle.std.specs.Prelude.{◌≡◌, ◌++◌, Some, codes, decimal};
 ghost use Rattle.std.specs.Fmt.{DisplaysOnOk};
 ghost use Rattle.p4db_top.specs.Status.{op_text, section_word, limit_word};
 
@@ -22,10 +22,20 @@ pub enum Note {
     WriteFault,
     /// The text is that of no session.
     Session(SessionFault),
-    /// The log of this client failed: it could not be emptied, or a record could not be appended to it.
+    /// The log of this client failed: it could not be emptied or read, or a record could not be appended to it.
     LogFault(u8),
-    /// The session is one that this program doesn't run yet: one of its items loses the switch.
-    NotBuilt,
+    /// When the switch was to be recovered in a run, the log of this client was not what the run had written:
+    /// it differs first at this place, counted from 0.
+    LogChanged(u8, u64),
+    /// The log of this client that is to be recovered is damaged at this place, counted from 0.
+    LogDamaged(u8, u64),
+    /// The log of this client that is to be recovered is longer than 16,777,216 bytes.
+    LogTooLong(u8),
+    /// In the log of this client that is to be recovered, the intent of this item names a place outside the
+    /// layout.
+    BadIntent(u8, u32),
+    /// The logs that are to be recovered fit no order of their packets.
+    NoOrder,
     /// Memory ran out.
     NoMemory,
 }
@@ -33,7 +43,7 @@ pub enum Note {
 impl Note {
     ghost use Rattle.p4db_top.specs.Status.{status_of};
 
-    /// The exit status: 0, 2 to 6, 9 or 10.
+    /// The exit status: 0, or 2 to 9.
     pub fn status(self) -> u8
         ensures { result ≡ status_of self }
     {
@@ -44,8 +54,12 @@ impl Note {
             Note::WriteFault => 4,
             Note::Session(_) => 5,
             Note::LogFault(_) => 6,
+            Note::LogChanged(..)
+            | Note::LogDamaged(..)
+            | Note::LogTooLong(_)
+            | Note::BadIntent(..) => 7,
+            Note::NoOrder => 8,
             Note::NoMemory => 9,
-            Note::NotBuilt => 10,
         }
     }
 }
@@ -70,8 +84,12 @@ impl fmt::Display for Note {
                 let text = FaultText(fault);
                 write!(f, "p4db: session fault {text}\n")
             }
-            Note::LogFault(client) => write!(f, "p4db: log of c{client} failed\n"),
-            Note::NotBuilt => f.write_str("p4db: not built yet\n"),
+            Note::LogFault(client) => write_log(f, client, " failed\n"),
+            Note::LogChanged(client, at) => write_place(f, client, " changed at ", at),
+            Note::LogDamaged(client, at) => write_place(f, client, " damaged at ", at),
+            Note::LogTooLong(client) => write_log(f, client, " longer than 16777216 bytes\n"),
+            Note::BadIntent(client, seq) => write_bad_intent(f, client, seq),
+            Note::NoOrder => f.write_str("p4db: no order fits the logs\n"),
             Note::NoMemory => f.write_str("p4db: out of memory\n"),
         }
     }
@@ -116,6 +134,33 @@ fn write_at<W: fmt::Write>(f: &mut fmt::Formatter<W>, name: &str, at: OpAt) -> f
 {
     let OpAt { client, seq, op } = at;
     write!(f, "{name}c{client} {seq} op{op}")
+}
+
+/// Writes what is said of the log of a client.
+fn write_log<W: fmt::Write>(f: &mut fmt::Formatter<W>, client: u8, what: &str) -> fmt::Result
+    ensures { DisplaysOnOk W.write_str_gives f.old result (Some (codes "p4db: log of c" ++ decimal client ++ what.now)) f.new }
+{
+    write!(f, "p4db: log of c{client}{what}")
+}
+
+/// Writes what is said of a place in the log of a client.
+fn write_place<W: fmt::Write>(
+    f: &mut fmt::Formatter<W>,
+    client: u8,
+    what: &str,
+    at: u64,
+) -> fmt::Result
+    ensures { DisplaysOnOk W.write_str_gives f.old result (Some (codes "p4db: log of c" ++ decimal client ++ what.now ++ decimal at ++ codes "\n")) f.new }
+{
+    write!(f, "p4db: log of c{client}{what}{at}\n")
+}
+
+/// Writes what is said of a bad intent.
+fn write_bad_intent<W: fmt::Write>(f: &mut fmt::Formatter<W>, client: u8, seq: u32) -> fmt::Result
+    ensures { DisplaysOnOk W.write_str_gives f.old result (Some (codes "p4db: log of c" ++ decimal client ++ codes " item " ++ decimal seq ++ codes " names a place outside the layout\n")) f.new }
+{
+    let what = " names a place outside the layout\n";
+    write!(f, "p4db: log of c{client} item {seq}{what}")
 }
 
 /// A section's word in messages.

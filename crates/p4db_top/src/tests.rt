@@ -1,5 +1,6 @@
 use super::*;
-use port_io::{CleanRack, CleanSink, CleanSource, MemRack, MemSink, MemSource, Word};
+use client_gate::MeetGate;
+use port_io::{CleanRack, CleanSink, CleanSource, DamagedRack, MemRack, MemSink, MemSource, Word};
 use std::alloc::{AllocError, Global};
 use std::test::Fail;
 
@@ -23,6 +24,19 @@ const SHARED: &str =
 const LOSES: &str =
     r#"{"shape":{"stages":1,"arrays":1,"cells":1,"split":0,"hosts":1},"tuples":[],"layout":[],"tries":1,"clients":[["lose"]],"schedule":""}"#;
 
+const LOSES_REPORT: &str = "replies 1\nc0 1 lose\nhistory 0\ntuples 0\nschedule c0 r\n";
+
+/// The switch is lost when two packets have no logged answer, and the third has seen both.
+const LOST: &str =
+    r#"{"shape":{"stages":2,"arrays":1,"cells":2,"split":1,"hosts":2},"tuples":[[0,10],[1,20],[2,30],[3,40],[4,50]],"layout":[[0,0,0,0],[1,1,0,0],[4,0,0,1]],"tries":2,"clients":[[[["add",0,1,[]]]],[[["put",0,5,[]]]],[[["read",0]]],["lose"]],"schedule":"c0 c0 c1 c1 c2 c2 p1 s0 s1 p0 s0 s1 p2 s0 s1 c2 c3 r"}"#;
+
+const LOST_REPORT: &str =
+    "replies 4\nc0 1 hot 2.0 5>6\nc1 1 hot 1.0 10>5\nc2 1 hot 3.0 6>6\nc3 1 lose\nhistory 3\n1.0 c1 1\n2.0 c0 1\n3.0 c2 1\ntuples 5\nt0 6\nt1 20\nt2 30\nt3 40\nt4 50\nschedule c0 c0 c1 c1 c2 c2 p1 s0 s1 p0 s0 s1 p2 s0 s1 c2 c3 r c0 c1\n";
+
+/// Two clients on hosts, each with a tuple of its own.
+const APART: &str =
+    r#"{"shape":{"stages":2,"arrays":1,"cells":2,"split":1,"hosts":2},"tuples":[[0,10],[1,20],[2,30],[3,40],[4,50]],"layout":[[0,0,0,0],[1,1,0,0],[4,0,0,1]],"tries":2,"clients":[[[["add",2,5,[]]]],[[["add",3,1,[]]]]],"schedule":""}"#;
+
 fn words(alloc: Global, texts: &[&str]) -> Result<Vec<Word>, AllocError> {
     let mut words = Vec::new(alloc);
     for text in texts {
@@ -44,7 +58,8 @@ fn texts_get_these_answers(rt: HostRuntime) -> Result<(), Fail> {
         (run, SESSION, 1, Note::LogFault(0), ""),
         (run, PACKETS, 0, Note::Done, PACKETS_REPORT),
         (run, SHARED, 5, Note::LogFault(1), ""),
-        (run, LOSES, 1, Note::NotBuilt, ""),
+        (run, LOSES, 0, Note::Done, LOSES_REPORT),
+        (run, LOST, 0, Note::Done, LOST_REPORT),
         (run, "", 1, Note::Session(SessionFault::NotJson), ""),
         (
             run,
@@ -88,5 +103,45 @@ fn faults_of_streams_are_told(rt: HostRuntime) -> Result<(), Fail> {
     let ended = command(alloc, words.as_slice(), &mut source, &mut slow, rack);
     assert_eq!(rt; ended.note, Note::WriteFault);
     assert_eq!(rt; slow.content(), b"replies 2\n".as_slice());
+    Ok(())
+}
+
+#[test]
+fn a_changed_log_stops_the_recovery(rt: HostRuntime) -> Result<(), Fail> {
+    let alloc = rt.alloc();
+    let words = words(alloc, &["run"])?;
+    let mut source = CleanSource::of(bytes(alloc, LOST)?);
+    let mut sink = CleanSink::fresh(alloc);
+    let rack = DamagedRack::of(alloc, 2, 0, 0);
+    let ended = command(alloc, words.as_slice(), &mut source, &mut sink, rack);
+    assert_eq!(rt; ended.note, Note::LogChanged(2, 0));
+    assert_eq!(rt; ended.status, 7);
+    assert_eq!(rt; sink.content(), b"".as_slice());
+    Ok(())
+}
+
+// No run by a single thread passes: neither of the first two clients' first turns is let pass without the other.
+#[test]
+fn two_threads_meet_in_a_race(rt: HostRuntime) -> Result<(), Fail> {
+    let alloc = rt.alloc();
+    let words = words(alloc, &["race", "--threads", "4"])?;
+    let mut source = CleanSource::of(bytes(alloc, APART)?);
+    let mut sink = CleanSink::fresh(alloc);
+    let rack = CleanRack::fresh(alloc);
+    let gate = MeetGate::of(100_000_000);
+    let ended = top(
+        &rt,
+        alloc,
+        words.as_slice(),
+        &mut source,
+        &mut sink,
+        rack,
+        &gate,
+    );
+    assert_eq!(rt; ended.note, Note::Done);
+    assert!(rt; !gate.gave_up());
+    let printed = sink.content();
+    assert!(rt; printed.starts_with(b"replies 2\nc0 1 cold 0.1 30>35\nc1 1 cold 0.1 40>41\n"));
+    assert!(rt; printed.ends_with(b" c0 c0\n"));
     Ok(())
 }

@@ -6,14 +6,14 @@ use Rattle.fabric_model.specs.Laws.{IsReached}
 use Rattle.fabric_model.specs.Run.{state_of}
 use Rattle.fabric_core.specs.Running.{Running, state_in}
 use Rattle.fabric_core.specs.declared.turn.End.{End}
-use Rattle.fabric_core.specs.declared.turn.End.TheVariants.{Finished, LogFault, NoMemory}
+use Rattle.fabric_core.specs.declared.turn.End.TheVariants.{Finished, LogFault, LogChanged, NoMemory}
 use Rattle.fabric_core.specs.declared.turn.Stop.TheVariants as stops
 
--- how it ended: all clients have finished; or it has stopped, since a client's record could not be appended; or memory ran out, and it
--- can go on
+-- how it ended: all clients have finished; or a log has stopped it; or memory ran out, and it can go on
 abbrev pub EndsWith : {R : Type 0} → Running R → End → Type 0
 EndsWith run Finished = IsFinished (state_in run) × (run.stop ≡ None)
 EndsWith run (LogFault c) = run.stop ≡ Some (stops.LogFault c)
+EndsWith run (LogChanged c at) = run.stop ≡ Some (stops.LogChanged c at)
 EndsWith run NoMemory = run.stop ≡ None
 
 -- It is a run of this session: its state is what its moves make of the opening, and each of them could be made.

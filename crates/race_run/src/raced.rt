@@ -23,7 +23,8 @@ use std::thread::Threads;
 /// gate. A worker ends when nothing is left to do, when the world has stopped or a turn found no memory, or when
 /// none of its actors has moved for 64 rounds. Where a thread or memory for it can't be had, its work is the
 /// caller's. What is answered is how the caller's part ended: a fault of a log stands only where the rack has
-/// counted a failure since the run began.
+/// counted a failure since the run began, and a changed log only where the switch was lost, and a log that the
+/// rack tells is not the text of its records.
 ///
 /// What is promised holds if the call returns: threads wait for each other.
 pub fn race<R: Threads + Wait + Sync, L: LogRack + Send, N: RunName + Send, G: Gate + Sync>(

@@ -1,12 +1,11 @@
 ghost use Rattle.std.specs.Prelude.{◌≡◌, ◌≤◌, true};
 ghost use Rattle.catalogue.specs.PlanOf.{plan_of};
 ghost use Rattle.catalogue.specs.Sound.{IsSound};
-ghost use Rattle.fabric_model.specs.Driven.{has_no_loss};
 
 use super::*;
 use catalogue::{Actor, Session};
 use client_gate::{Gate, MeetGate};
-use fabric_core::{End, RunName, World, has_no_loss};
+use fabric_core::{End, RunName, World};
 use port_io::CleanRack;
 use session_reader::read_session;
 use std::alloc::Global;
@@ -28,7 +27,6 @@ fn moves_of<R: Threads + Wait + Sync, N: RunName + Send, G: Gate + Sync>(
     gate: &G,
 ) -> Option<Vec<Actor>>
     requires sound { IsSound (plan_of session) }
-    requires losses { has_no_loss (plan_of session) ≡ true }
     requires named { plan_of session ≡ N.session }
     requires faults { N.faults ≡ 0 }
     requires kept { N.kept ≡ true }
@@ -50,7 +48,6 @@ fn moves_of<R: Threads + Wait + Sync, N: RunName + Send, G: Gate + Sync>(
 fn two_threads_meet_in_a_run(rt: HostRuntime) -> Result<(), Fail> {
     let alloc = rt.alloc();
     let session = read_session(alloc, APART.as_bytes()).expect(&rt, "the text is a session");
-    assert!(rt; has_no_loss(&session));
     let gate = MeetGate::of(100_000_000);
     let moves = moves_of::<HostRuntime, Brand, MeetGate>(&rt, alloc, session, 4, &gate);
     let moves = moves.expect(&rt, "there is memory");

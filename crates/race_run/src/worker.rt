@@ -56,7 +56,7 @@ fn take_turn<L: LogRack, N: RunName>(
     match turn {
         Turn::Moved => Progress::Moved,
         Turn::Idle => Progress::Idle,
-        Turn::LogFault(_) | Turn::NoMemory => Progress::Ended,
+        Turn::LogFault(_) | Turn::LogChanged(..) | Turn::NoMemory => Progress::Ended,
     }
 }
 

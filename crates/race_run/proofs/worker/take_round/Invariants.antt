@@ -1,4 +1,4 @@
-use Rattle.std.proofs.Common.{◌≤◌, ℕ, ◌-◌}
+use Rattle.std.proofs.Common.{◌≤◌, ◌-◌}
 use Rattle.race_run.specs.Places.{AreOf, count_of}
 use Rattle.race_run.proofs.worker.take_round.Given as goal
 

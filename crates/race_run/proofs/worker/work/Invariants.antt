@@ -1,4 +1,4 @@
-use Rattle.std.proofs.Common.{◌<◌, ℕ}
+use Rattle.std.proofs.Common.{◌<◌}
 use Rattle.race_run.proofs.worker.work.Given as goal
 
 -- fewer rounds than the last one in which none moved

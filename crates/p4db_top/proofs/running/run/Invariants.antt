@@ -1,5 +1,5 @@
 use Rattle.catalogue.specs.PlanOf.{plan_of}
-use Rattle.p4db_top.proofs.top.run.Given as goal
+use Rattle.p4db_top.proofs.running.run.Given as goal
 
 -- the run is named after the session that was read, and the rack that it was given
 abbrev pub ghosts-run_named : goal.ghosts-run_named
