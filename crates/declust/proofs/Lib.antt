@@ -11,3 +11,4 @@ pub mod Totals
 pub mod Growing
 pub mod Valid
 pub mod Spreads
+pub mod OneGreedy

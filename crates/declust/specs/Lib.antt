@@ -6,3 +6,4 @@ pub mod Uses
 pub mod Columns
 pub mod Total
 pub mod Spread
+pub mod Laws

@@ -9,11 +9,13 @@ mod arrays;
 mod chosen;
 mod columns;
 mod greedy;
+mod laws;
 mod passes;
 mod plain;
 mod uses;
 
 pub use chosen::{SpreadLayout, spread};
+pub use laws::greedy_layouts_are_one;
 
 #[cfg(test)]
 mod tests;
