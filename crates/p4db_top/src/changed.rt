@@ -1,6 +1,6 @@
 //! A log in a file that another changes during a run.
 
-ghost use Rattle.std.specs.Prelude.{◌≡◌, false};
+ghost use Rattle.std.specs.Prelude.{◌≡◌, All, false};
 ghost use Rattle.catalogue.specs.PlanOf.{plan_of};
 ghost use Rattle.catalogue.specs.Sound.{IsActor, IsSound};
 
@@ -45,7 +45,26 @@ fn take_turn<L: LogRack, N: RunName>(
     Some(world.turn(alloc, actor))
 }
 
-/// The last turn of the session's schedule, when the log was changed before each recovery.
+/// The last turn of these actors, when the log is changed before each recovery.
+fn take_each<L: LogRack, N: RunName>(
+    rt: &HostRuntime,
+    alloc: Global,
+    world: &mut World<L, N>,
+    actors: &[Actor],
+) -> Option<Turn>
+    requires { All (IsActor N.session) actors.now }
+{
+    let mut last = None;
+    for actor in actors {
+        if *actor == Actor::Recover {
+            change(rt).ok()?;
+        }
+        last = take_turn(alloc, world, *actor);
+    }
+    last
+}
+
+/// The last turn of the session's schedule.
 fn last_turn<N: RunName>(rt: &HostRuntime, alloc: Global, session: Session) -> Option<Turn>
     requires sound { IsSound (plan_of session) }
     requires named { plan_of session ≡ N.session }
@@ -55,14 +74,7 @@ fn last_turn<N: RunName>(rt: &HostRuntime, alloc: Global, session: Session) -> O
     let actors = session.schedule.copy(alloc).ok()?;
     let rack = FileRack::at(rt, FOLDER);
     let mut world = World::<FileRack<HostRuntime>, N>::begin(alloc, session, rack).ok()?;
-    let mut last = None;
-    for actor in actors.as_slice() {
-        if *actor == Actor::Recover {
-            change(rt).ok()?;
-        }
-        last = take_turn(alloc, &mut world, *actor);
-    }
-    last
+    take_each(rt, alloc, &mut world, actors.as_slice())
 }
 
 #[test]

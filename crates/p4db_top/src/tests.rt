@@ -1,5 +1,5 @@
 use super::*;
-use client_gate::MeetGate;
+use client_gate::{MeetGate, OpenGate};
 use port_io::{CleanRack, CleanSink, CleanSource, DamagedRack, MemRack, MemSink, MemSource, Word};
 use std::alloc::{AllocError, Global};
 use std::test::Fail;
@@ -78,7 +78,15 @@ fn texts_get_these_answers(rt: HostRuntime) -> Result<(), Fail> {
         let mut sink = CleanSink::fresh(alloc);
         let words = words(alloc, texts)?;
         let rack = MemRack::of(alloc, vec![in alloc; fails]?);
-        let ended = command(alloc, words.as_slice(), &mut source, &mut sink, rack);
+        let ended = top(
+            &rt,
+            alloc,
+            words.as_slice(),
+            &mut source,
+            &mut sink,
+            rack,
+            &OpenGate,
+        );
         assert_eq!(rt; ended.note, note);
         assert_eq!(rt; ended.status, note.status());
         assert_eq!(rt; sink.content(), printed.as_bytes());
@@ -93,14 +101,30 @@ fn faults_of_streams_are_told(rt: HostRuntime) -> Result<(), Fail> {
     let mut failing = MemSource::of(bytes(alloc, SESSION)?, vec![in alloc; 1]?);
     let mut sink = CleanSink::fresh(alloc);
     let rack = CleanRack::fresh(alloc);
-    let ended = command(alloc, words.as_slice(), &mut failing, &mut sink, rack);
+    let ended = top(
+        &rt,
+        alloc,
+        words.as_slice(),
+        &mut failing,
+        &mut sink,
+        rack,
+        &OpenGate,
+    );
     assert_eq!(rt; ended.note, Note::ReadFault);
     assert_eq!(rt; sink.content(), b"".as_slice());
 
     let mut source = CleanSource::of(bytes(alloc, SESSION)?);
     let mut slow = MemSink::of(alloc, 10, vec![in alloc; 2]?);
     let rack = CleanRack::fresh(alloc);
-    let ended = command(alloc, words.as_slice(), &mut source, &mut slow, rack);
+    let ended = top(
+        &rt,
+        alloc,
+        words.as_slice(),
+        &mut source,
+        &mut slow,
+        rack,
+        &OpenGate,
+    );
     assert_eq!(rt; ended.note, Note::WriteFault);
     assert_eq!(rt; slow.content(), b"replies 2\n".as_slice());
     Ok(())
@@ -113,7 +137,15 @@ fn a_changed_log_stops_the_recovery(rt: HostRuntime) -> Result<(), Fail> {
     let mut source = CleanSource::of(bytes(alloc, LOST)?);
     let mut sink = CleanSink::fresh(alloc);
     let rack = DamagedRack::of(alloc, 2, 0, 0);
-    let ended = command(alloc, words.as_slice(), &mut source, &mut sink, rack);
+    let ended = top(
+        &rt,
+        alloc,
+        words.as_slice(),
+        &mut source,
+        &mut sink,
+        rack,
+        &OpenGate,
+    );
     assert_eq!(rt; ended.note, Note::LogChanged(2, 0));
     assert_eq!(rt; ended.status, 7);
     assert_eq!(rt; sink.content(), b"".as_slice());
