@@ -3,3 +3,4 @@ pub mod Items
 pub mod PlanOf
 pub mod Sound
 pub mod ActorWord
+pub mod LoadPlans
