@@ -24,7 +24,16 @@ fn replies(
     held: &[(u32, i64)],
     pairs: &[(i64, i64)],
 ) -> Result<bool, NoMemory> {
-    let zeros = [0, 1, 2, 3, 4, 5, 6, 7].map(|id| (TupleId(id), 0));
+    let zeros = [
+        (TupleId(0), 0),
+        (TupleId(1), 0),
+        (TupleId(2), 0),
+        (TupleId(3), 0),
+        (TupleId(4), 0),
+        (TupleId(5), 0),
+        (TupleId(6), 0),
+        (TupleId(7), 0),
+    ];
     let mut map = TupleMap::of(alloc, &zeros)?;
     for &(id, value) in held {
         if map.get(TupleId(id)).is_some() {
