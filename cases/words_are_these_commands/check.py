@@ -14,13 +14,24 @@ BUILT = {
     b"hot": ({}, TUPLES_WANTED),
     b"layout": ({}, TUPLES_WANTED),
 }
+# the loads: the option that says how many keys there are, and each option with a number, its range and what stands where it isn't given
+SIZES = {b"number": (*ANY, 1), b"clients": (1, 8, 4), b"scripts": (1, 4096, 100), b"hot": (0, 65536, 10), b"share": (0, 100, 80)}
+LOADS = {
+    b"smallbank": (b"customers", {**SIZES, b"customers": (2, 32768, 100)}),
+    b"ycsb": (b"records", {**SIZES, b"records": (16, 65536, 100), b"ops": (1, 16, 4)}),
+}
+LOAD_OPTIONS = [*SIZES, b"customers", b"records", b"ops", b"mix"]
+MIXES = [b"a", b"b", b"c"]
+ITEMS = 4096
 SESSION = (
     b'{"shape":{"stages":2,"arrays":1,"cells":2,"split":1,"hosts":2},"tuples":[[0,10],[1,20],[2,30]],'
     b'"layout":[[0,0,0,0],[1,1,0,0]],"tries":2,"clients":[[[["add",2,5,[]]]]],"schedule":""}'
 )
 TUPLES = 3
+# how the outputs of commands without a number begin that print no report
+FRONTS = {b"recover": b"order 0\nregisters 2\n", b"gen": b'{"clients":[[[', b"drive": b"hot "}
 NAMES = [
-    b"run", b"race", b"recover", b"hot", b"layout", b"gen", b"drive", b"help", b"rn", b"Run", b"", b"-", b"--", b"--help", b"--version", b"-h", b"-V", b"--run",
+    b"gen", b"drive", b"help", b"rn", b"Run", b"", b"-", b"--", b"--help", b"--version", b"-h", b"-V", b"--run",
     b"rec", b"recover ", b"run\xff",
 ]
 WORDS = [
@@ -37,6 +48,18 @@ VALUES = [
     b"18446744073709551615", b"18446744073709551616", b"9" * 21, b"1 ", b"+1", b"one", b"1\xff", b"\xef\xbc\x91",
 ]
 OPTIONS = [b"draws", b"number", b"threads"]
+LOAD_VALUES = [
+    b"", b"0", b"1", b"2", b"008", b"9", b"10", b"15", b"16", b"17", b"100", b"101", b"1024", b"1025", b"4097", b"32768", b"32769", b"65536", b"65537",
+    b"18446744073709551615", b"18446744073709551616", b"a", b"b", b"c", b"A", b"d", b"ab", b"1 ", b"b\xff",
+]
+# words behind `gen` or `drive`, and a load
+LOAD_WORDS = [
+    [], [b"--"], [b"ycsb"], [b"--hot"], [b"--hot", b"--share=1"], [b"--hot", b"-1"], [b"--threads=1"], [b"--draws=1"], [b"--K=ycsb"], [b"--Hot=1"],
+    [b"--mix=a", b"--mix=a"], [b"--hot=1", b"--hot", b"1"], [b"--", b"--hot=1"],
+    [b"--customers=5", b"--hot=5"], [b"--records=65536", b"--hot=65536"], [b"--records=16", b"--hot", b"17"], [b"--records", b"16", b"--hot=0"],
+    [b"--clients=8", b"--scripts=512"], [b"--clients=8", b"--scripts=513"], [b"--clients=1", b"--scripts=4096"], [b"--clients=5", b"--scripts=820"],
+    [b"--share", b"7", b"--number=3", b"--scripts=1", b"--clients=2", b"--hot=9"], [b"--mix=c", b"--ops=16", b"--scripts=2"],
+]
 
 
 def tails():
@@ -52,6 +75,15 @@ def tails():
     for value in VALUES:
         yield from ([b"--draws=" + value, b"--number=1"], [b"--number=" + value, b"--draws", b"1"], [b"--draws", b"3", b"--number", value])
     yield from ([b"--number=1", b"--draws=1", b"--number=1"], [b"--draws=1", b"--number=1", b"--threads=1"], [b"--draws", b"--number", b"1"])
+
+
+def load_tails():
+    """The lists of words behind `gen` and `drive`."""
+    yield from ([], [b"tpcc"], [b"SmallBank"], [b"ycsb "], [b"--hot=1"], [b"--", b"ycsb"], [b"-", b"ycsb"], [b"ycsb", b"smallbank"])
+    for load in LOADS:
+        yield from ([load, *words] for words in LOAD_WORDS)
+        yield from ([*words, load] for words in LOAD_WORDS)
+        yield from ([b"--" + option + b"=" + value, load] for option in LOAD_OPTIONS for value in LOAD_VALUES)
 
 
 def is_text(word):
@@ -93,9 +125,26 @@ def split(options, words):
     return given, alone
 
 
+def is_load(words):
+    """Whether the words behind `gen` or `drive` are a load."""
+    parts = split(LOAD_OPTIONS, words)
+    if parts is None or len(parts[1]) != 1 or parts[1][0] not in LOADS:
+        return False
+    given, (load,) = parts
+    keys, ranges = LOADS[load]
+    if b"mix" in given and (load != b"ycsb" or given.pop(b"mix") not in MIXES) or any(name not in ranges for name in given):
+        return False
+    numbers = {name: number_in(given[name], (least, most)) if name in given else other for name, (least, most, other) in ranges.items()}
+    return None not in numbers.values() and numbers[b"hot"] <= numbers[keys] and numbers[b"clients"] * numbers[b"scripts"] <= ITEMS
+
+
 def read(words):
     """The name of the command and the number of its word, or None where the words are no command."""
-    if not words or not all(map(is_text, words)) or words[0] not in BUILT:
+    if not words or not all(map(is_text, words)):
+        return None
+    if words[0] in (b"gen", b"drive"):
+        return (words[0], None) if is_load(words[1:]) else None
+    if words[0] not in BUILT:
         return None
     options, word_range = BUILT[words[0]]
     parts = split(options, words[1:])
@@ -114,7 +163,7 @@ def front_of(name, number):
     """How the output of the command begins."""
     if number is not None:
         return b"%s %d\n" % (name, min(number, TUPLES))
-    return b"order 0\nregisters 2\n" if name == b"recover" else b"replies 1\n"
+    return FRONTS.get(name, b"replies 1\n")
 
 
 def fault_at(program, words, folder):
@@ -127,7 +176,8 @@ def fault_at(program, words, folder):
 
 def main():
     program = os.path.abspath(sys.argv[1])
-    lists = [[]] + [[name, *tail] for name in NAMES[:5] for tail in tails()] + [[name, *tail] for name in NAMES[5:] for tail in WORDS[:9]]
+    lists = [[]] + [[name, *tail] for name in BUILT for tail in tails()] + [[name, *tail] for name in (b"gen", b"drive") for tail in load_tails()]
+    lists += [[name, *tail] for name in NAMES for tail in WORDS[:9]]
     with tempfile.TemporaryDirectory() as folder:
         for words in lists:
             fault = fault_at(program, words, folder)
