@@ -67,7 +67,7 @@ ycsb_plan size ops mix =
 abbrev pub lacks : Values → Text → Bool
 lacks values name = is_none (values (Some name))
 
--- no option of the other load is given
+-- the plans of the two loads, where no option of the other one is given
 abbrev pub bank_of : Values → Option BankPlan
 bank_of values =
     if lacks values (codes "records") && (lacks values (codes "ops") && lacks values (codes "mix"))
