@@ -1,6 +1,6 @@
 //! Lock tables.
 
-ghost use Rattle.std.specs.Prelude.{◌≡◌, ◌==◌, ℕ, ◌<◌, length, map, HoldsAt, IfOk, IsSome, IsTrue, MatchResult, None};
+ghost use Rattle.std.specs.Prelude.{◌≡◌, ◌==◌, ℕ, ◌<◌, length, map, HoldsAt, IfOk, IsSome, IsTrue, None};
 ghost use Rattle.std.specs.declared.cmp.Ordering.TheVariants.{Equal};
 ghost use Rattle.std.specs.FinMap.{find, is_sorted};
 ghost use Rattle.std.specs.List.{list_any};
@@ -11,14 +11,14 @@ use crate::lock_word::LockWord;
 use crate::mode::{Grant, Mode};
 use std::alloc::Global;
 use std::marker::Model;
-use txn_model::{NoMemory, TupleId};
+use txn_model::{NoMemory, TupleId, row_of};
 
 /// The most clients that hold locks. They are counted from 0.
 pub const MOST_CLIENTS: u8 = 8;
 
 /// Which client holds which tuple, and in which mode: a client has at most one lock on a tuple. The tuples
 /// stand in ascending order, each with a word that has room for the locks of all clients, so that a lock
-/// takes no memory. A lock is tried and given back after one binary search.
+/// takes no memory. A lock is tried and given back after one look-up.
 #[derive(Debug, Drop)]
 pub struct LockTable {
     rows: Vec<(TupleId, LockWord)>,
@@ -85,9 +85,9 @@ impl LockTable {
     pub fn mode_of(&self, tuple: TupleId, client: u8) -> Option<Mode>
         ensures { result ≡ mode_held self.now tuple client }
     {
-        match search(self.rows.as_slice(), tuple) {
-            Ok(at) => self.rows[at].1.mode_of(client),
-            Err(_) => None,
+        match row_of(self.rows.as_slice(), tuple) {
+            Some(at) => self.rows[at].1.mode_of(client),
+            None => None,
         }
     }
 }
@@ -103,14 +103,6 @@ fn free_rows(alloc: Global, tuples: &[TupleId]) -> Result<Vec<(TupleId, LockWord
     Ok(rows)
 }
 
-/// The place of the tuple's row; Err where there is none.
-fn search(rows: &[(TupleId, LockWord)], tuple: TupleId) -> Result<usize, usize>
-    requires { IsTrue (is_sorted tuple_cmp rows.now) }
-    ensures { MatchResult result (λ i. (i < length rows.now) × HoldsAt (λ row. tuple_cmp row.0 tuple ≡ Equal) rows.now i) (λ _. find tuple_cmp tuple rows.now ≡ None) }
-{
-    rows.binary_search_by_key(&tuple.0, |&(key, _)| key.0)
-}
-
 /// The place of the row of a tuple that is there.
 fn place_of(rows: &[(TupleId, LockWord)], tuple: TupleId) -> usize
     requires sorted { IsTrue (is_sorted tuple_cmp rows.now) }
@@ -118,8 +110,8 @@ fn place_of(rows: &[(TupleId, LockWord)], tuple: TupleId) -> usize
     ensures bound { result < length rows.now }
     ensures found { HoldsAt (λ row. tuple_cmp row.0 tuple ≡ Equal) rows.now result }
 {
-    match search(rows, tuple) {
-        Ok(at) => at,
-        Err(_) => unreachable!(),
+    match row_of(rows, tuple) {
+        Some(at) => at,
+        None => unreachable!(),
     }
 }

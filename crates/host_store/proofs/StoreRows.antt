@@ -1,5 +1,5 @@
 -- The rows of a store, and what is read from them and written to them.
-use Rattle.std.proofs.Common.{◌≡◌, ℕ, ℤ, Bool, true, false, ◌<◌, T, IsTrue, List, length, get_or, set, Some, None, IsSome, is_some, Result, Ok, Err, MatchResult, HoldsAt, pos, unwrap_or, option_map, map, refl, sym, ap, subst, ◌∙◌, Equal}
+use Rattle.std.proofs.Common.{◌≡◌, ℕ, ℤ, Bool, true, false, ◌<◌, T, IsTrue, List, length, get_or, set, Some, None, IsSome, is_some, Option, MatchOption, HoldsAt, pos, unwrap_or, option_map, map, refl, sym, ap, subst, ◌∙◌, Equal}
 use Rattle.std.specs.FinMap as fin
 use Rattle.std.specs.Result.{is_ok}
 use Rattle.txn_model.specs.Tuples.{Tuples, tuple_cmp}
@@ -36,14 +36,14 @@ module _ (tuples : Tuples) (es : List (TupleId × Seen)) (made : es ≡ map (λ 
 
 module _ (es : List (TupleId × Seen)) (sorted : IsTrue (fin.is_sorted tuple_cmp es)) (store : Store) (view : fin.from_sorted es ≡ store) (t : TupleId) where
   -- what the search of the rows says of the store
-  pub tested : (rows : List (TupleId × Seen)) → rows ≡ es → (r : Result ℕ ℕ)
-      → MatchResult r (λ i. (i < length rows) × HoldsAt (λ row. tuple_cmp row.0 t ≡ Equal) rows i) (λ _. fin.find tuple_cmp t rows ≡ None)
-      → is_ok r ≡ is_some (fin.get store t)
-  tested rows same (Ok i) found =
+  pub tested : (rows : List (TupleId × Seen)) → rows ≡ es → (r : Option ℕ)
+      → MatchOption r (fin.find tuple_cmp t rows ≡ None) (λ i. (i < length rows) × HoldsAt (λ row. tuple_cmp row.0 t ≡ Equal) rows i)
+      → is_some r ≡ is_some (fin.get store t)
+  tested rows same (Some i) found =
       let row : TupleId × Seen = (t, first_seen (pos 0)) in
       let sorted' : IsTrue (fin.is_sorted tuple_cmp rows) = subst (λ l. IsTrue (fin.is_sorted tuple_cmp l)) (sym same) sorted in
       sym (ap is_some (ap (λ m. fin.get m t) (sym view) ∙ fin.get-from_sorted tuple_cmp es t (holds sorted) ∙ ap (fin.find tuple_cmp t) (sym same) ∙ find_at tuple_cmp_total rows sorted' t i row found.0 (found.1 row)))
-  tested rows same (Err i) none =
+  tested rows same None none =
       sym (ap is_some (ap (λ m. fin.get m t) (sym view) ∙ fin.get-from_sorted tuple_cmp es t (holds sorted) ∙ ap (fin.find tuple_cmp t) (sym same) ∙ none))
 
   -- a tuple that the store has is found in its rows

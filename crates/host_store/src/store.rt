@@ -1,6 +1,6 @@
 //! The store of hosts.
 
-ghost use Rattle.std.specs.Prelude.{◌≡◌, ◌<◌, ℤ, map, length, HoldsAt, IfOk, IsSome, IsTrue, MatchResult, Some, None, is_some};
+ghost use Rattle.std.specs.Prelude.{◌≡◌, ◌<◌, ℤ, map, length, HoldsAt, IfOk, IsSome, IsTrue, Some, None, is_some};
 ghost use Rattle.std.specs.Option.{option_map};
 ghost use Rattle.std.specs.declared.cmp.Ordering.TheVariants.{Equal};
 ghost use Rattle.std.specs.FinMap.{get, find, is_sorted};
@@ -11,7 +11,7 @@ ghost use Rattle.host_store.specs.Store.{first_seen, seen_at, installed};
 use history_model::greater;
 use std::alloc::Global;
 use std::marker::Model;
-use txn_model::{NoMemory, Seen, Stamp, TupleId, TupleMap};
+use txn_model::{NoMemory, Seen, Stamp, TupleId, TupleMap, row_of};
 
 /// The values and stamps of tuples. Which tuples there are is fixed when it is made. A tuple is read and
 /// written in logarithmic time.
@@ -49,7 +49,7 @@ impl HostStore {
     pub fn contains(&self, tuple: TupleId) -> bool
         ensures { result ≡ is_some (get self.now tuple) }
     {
-        search(self.rows.as_slice(), tuple).is_ok()
+        row_of(self.rows.as_slice(), tuple).is_some()
     }
 
     /// The tuple's value and stamp.
@@ -84,14 +84,6 @@ fn first_rows(alloc: Global, rows: &[(TupleId, i64)]) -> Result<Vec<(TupleId, Se
     Ok(made)
 }
 
-/// The place of the tuple's row; Err where there is none.
-fn search(rows: &[(TupleId, Seen)], tuple: TupleId) -> Result<usize, usize>
-    requires { IsTrue (is_sorted tuple_cmp rows.now) }
-    ensures { MatchResult result (λ i. (i < length rows.now) × HoldsAt (λ row. tuple_cmp row.0 tuple ≡ Equal) rows.now i) (λ _. find tuple_cmp tuple rows.now ≡ None) }
-{
-    rows.binary_search_by_key(&tuple.0, |&(key, _)| key.0)
-}
-
 /// The place of the row of a tuple that is there.
 fn place_of(rows: &[(TupleId, Seen)], tuple: TupleId) -> usize
     requires sorted { IsTrue (is_sorted tuple_cmp rows.now) }
@@ -99,8 +91,8 @@ fn place_of(rows: &[(TupleId, Seen)], tuple: TupleId) -> usize
     ensures bound { result < length rows.now }
     ensures found { HoldsAt (λ row. tuple_cmp row.0 tuple ≡ Equal) rows.now result }
 {
-    match search(rows, tuple) {
-        Ok(at) => at,
-        Err(_) => unreachable!(),
+    match row_of(rows, tuple) {
+        Some(at) => at,
+        None => unreachable!(),
     }
 }

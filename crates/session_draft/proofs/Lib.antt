@@ -1,3 +1,2 @@
 pub mod JsonLists
-pub mod AscendingRows
 pub mod BytesAsJson

@@ -17,7 +17,7 @@ use crate::draft::{ItemDraft, OpDraft, RowDraft, ShapeDraft};
 use crate::operation::{as_tuple, operation};
 use serde_json::{Map, Value};
 use std::alloc::Global;
-use txn_model::{Place, TupleId};
+use txn_model::{Place, TupleId, ascend};
 
 fn is_section_name(name: &str) -> bool
     ensures { result ≡ is_section_name name.now }
@@ -99,12 +99,6 @@ fn each_tuple_row(alloc: Global, list: &[Value]) -> Result<Vec<(TupleId, i64)>, 
         rows.push(tuple_row(value).ok_or(Misread::Misfit)?)?;
     }
     Ok(rows)
-}
-
-fn ascend(rows: &[(TupleId, i64)]) -> bool
-    ensures { result ≡ is_sorted tuple_cmp rows.now }
-{
-    rows.is_sorted_by(|a, b| a.0.0 < b.0.0)
 }
 
 /// The tuples with their values, ascending.

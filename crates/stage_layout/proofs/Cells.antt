@@ -37,6 +37,12 @@ module _ {K A X : Type 0} (R : K → K → Ordering) (g : A → X) where
   find-map q [] = refl
   find-map q (e ∷ es) = elim (is_eq (R q e.0)) as (λ b. cond b (Some (g e.1)) (find R q (with_values es)) ≡ option_map g (cond b (Some e.1) (lookup (is_at (R q)) es))) [ true ↦ refl | false ↦ find-map q es ]
 
+module _ {K A : Type 0} (R : K → K → Ordering) where
+  -- the rows of a map are searched as the map is
+  pub find-same : (q : K) (es : List (K × A)) → find R q (map (λ e. (e.0, e.1)) es) ≡ lookup (is_at (R q)) es
+  find-same q [] = refl
+  find-same q (e ∷ es) = ap (cond (is_eq (R q e.0)) (Some e.1)) (find-same q es)
+
 same_place_by_cmp : (p q : Place) → eq_by_cmp place_cmp q p ≡ same_place p q
 same_place_by_cmp p q = grind (arith, common_steps)
 

@@ -1,5 +1,7 @@
 pub mod Firsts
 pub mod Repeats
+pub mod NoRow
+pub mod Apart
 pub mod Cells
 pub mod LateLaws
 pub mod PassLaws

@@ -1,17 +1,20 @@
 //! Layouts: which tuple is kept at which place of the switch.
 
-ghost use Rattle.std.specs.Prelude.{◌≡◌, ◌≢◌, ◌<◌, ◌^◌, [], length, map, IfOk};
+ghost use Rattle.std.specs.Prelude.{◌≡◌, ◌≢◌, ◌<◌, ◌^◌, [], true, length, map, IfOk, IsTrue};
+ghost use Rattle.std.specs.BTreeMap as tree;
 ghost use Rattle.std.specs.BTreeMap.{IsOrdered};
+ghost use Rattle.std.specs.FinMap.{find, is_sorted};
 ghost use Rattle.txn_model.specs.Places.{place_cmp};
-ghost use Rattle.txn_model.specs.Tuples.{value_at};
+ghost use Rattle.txn_model.specs.Tuples.{tuple_cmp, value_at};
+ghost use Rattle.stage_layout.specs.Index.{have_own_places, tuple_and_place};
 ghost use Rattle.stage_layout.specs.declared.layout.LayoutFault.TheVariants.{NoMemory};
-ghost use Rattle.stage_layout.specs.Layout.{is_bad_row, first_bad_row, first_repeat};
+ghost use Rattle.stage_layout.specs.Layout.{place_of, tuple_at, is_bad_row, first_bad_row, first_repeat};
 
 use crate::shape::Shape;
 use std::alloc::Global;
 use std::collections::{BTreeMap, BTreeSet};
 use std::marker::Model;
-use txn_model::{NoMemory, Place, PlaceMap, TupleId, TupleMap};
+use txn_model::{NoMemory, Place, PlaceMap, TupleId, TupleMap, ascend, row_of};
 
 /// A tuple and its place.
 #[derive(Clone, Copy, Debug, PartialEq, Eq)]
@@ -40,12 +43,15 @@ impl From<NoMemory> for LayoutFault {
 }
 
 /// The places of the hot tuples, as a list of fewer than 2^32 rows. Of several rows with one tuple, or
-/// with one place, the first counts. A look-up takes logarithmic time.
+/// with one place, the first counts. A look-up takes logarithmic time at most.
 #[derive(Debug, Drop)]
 pub struct Layout {
     rows: Vec<LayoutRow>,
-    places: BTreeMap<TupleId, Place>,
+    // ascending by tuple
+    places: Vec<(TupleId, Place)>,
     tuples: BTreeMap<Place, TupleId>,
+    // known to have no row that repeats the tuple or the place of another one
+    is_apart: bool,
 }
 
 impl Model for Layout {
@@ -58,30 +64,25 @@ impl Model for Layout {
 
     ghost view = { λ a. a.rows.items };
 
-    ghost invariant = { λ a. IsIndexed a.rows.items a.places a.tuples };
+    ghost invariant = { λ a. IsIndexed a.rows.items a.places.items a.tuples a.is_apart };
 }
 
 impl Layout {
     ghost use Rattle.std.specs.Result.{result_err};
-    ghost use Rattle.stage_layout.specs.Layout.{place_of, tuple_at, first_cells, layout_fault};
+    ghost use Rattle.stage_layout.specs.Layout.{first_cells, layout_fault};
 
     /// The layout with these rows.
     pub fn of(alloc: Global, rows: Vec<LayoutRow>) -> Result<Layout, NoMemory>
         requires few { length rows.items < 2 ^ 32 }
         ensures { IfOk result (λ layout. layout ≡ rows.items) }
     {
-        let mut places = BTreeMap::new(alloc);
-        let mut tuples = BTreeMap::new(alloc);
-        // From the last row to the first, so that the first one of a tuple or of a place stays.
-        for i in (0..rows.len()).rev() {
-            let row = rows[i];
-            places.insert(row.tuple, row.place)?;
-            tuples.insert(row.place, row.tuple)?;
-        }
+        let (places, ascend) = places_of(alloc, rows.as_slice())?;
+        let (tuples, differ) = tuples_of(alloc, rows.as_slice())?;
         Ok(Layout {
             rows,
             places,
             tuples,
+            is_apart: ascend && differ,
         })
     }
 
@@ -94,6 +95,9 @@ impl Layout {
         if let Some(row) = first_bad_row(rows, shape, tuples) {
             return Err(LayoutFault::BadPlace(row));
         }
+        if self.is_apart {
+            return Ok(());
+        }
         match first_repeat(alloc, rows)? {
             Some(row) => Err(LayoutFault::PlaceTwice(row)),
             None => Ok(()),
@@ -104,7 +108,10 @@ impl Layout {
     pub fn place_of(&self, tuple: TupleId) -> Option<Place>
         ensures { result ≡ place_of self.now tuple }
     {
-        self.places.get(&tuple).copied()
+        match row_of(self.places.as_slice(), tuple) {
+            Some(at) => Some(self.places[at].1),
+            None => None,
+        }
     }
 
     /// The tuple at the place, by the first row that has it; None exactly where no row has it.
@@ -136,6 +143,76 @@ impl Layout {
     {
         Layout::of(alloc, Vec::from_slice(alloc, self.as_slice())?)
     }
+}
+
+/// The place of each tuple, ascending by tuple, and whether the rows themselves ascend so.
+fn places_of(alloc: Global, rows: &[LayoutRow]) -> Result<(Vec<(TupleId, Place)>, bool), NoMemory>
+    ensures indexed { IfOk result (λ made. (t : TupleId) → find tuple_cmp t made.0.items ≡ place_of rows.now t) }
+    ensures sorted { IfOk result (λ made. IsTrue (is_sorted tuple_cmp made.0.items)) }
+    ensures apart { IfOk result (λ made. made.1 ≡ true → IsTrue (is_sorted tuple_cmp (map tuple_and_place rows.now))) }
+{
+    let listed = listed_places(alloc, rows)?;
+    if ascend(listed.as_slice()) {
+        return Ok((listed, true));
+    }
+    Ok((sorted_places(alloc, rows)?, false))
+}
+
+fn listed_places(alloc: Global, rows: &[LayoutRow]) -> Result<Vec<(TupleId, Place)>, NoMemory>
+    ensures { IfOk result (λ listed. listed.items ≡ map tuple_and_place rows.now) }
+{
+    let listed = rows
+        .iter()
+        .map(|row| (row.tuple, row.place))
+        .collect(alloc)?;
+    Ok(listed)
+}
+
+/// The place of each tuple, ascending by tuple, of rows in any order.
+fn sorted_places(alloc: Global, rows: &[LayoutRow]) -> Result<Vec<(TupleId, Place)>, NoMemory>
+    ensures indexed { IfOk result (λ places. (t : TupleId) → find tuple_cmp t places.items ≡ place_of rows.now t) }
+    ensures sorted { IfOk result (λ places. IsTrue (is_sorted tuple_cmp places.items)) }
+{
+    let mut places = BTreeMap::new(alloc);
+    // From the last row to the first, so that the first one of a tuple stays.
+    for i in (0..rows.len()).rev() {
+        let row = rows[i];
+        places.insert(row.tuple, row.place)?;
+    }
+    place_rows(alloc, &places)
+}
+
+fn place_rows(
+    alloc: Global,
+    places: &BTreeMap<TupleId, Place>,
+) -> Result<Vec<(TupleId, Place)>, NoMemory>
+    ensures rows { IfOk result (λ rows. rows.items ≡ map (λ row. (row.0, row.1)) places.now.entries) }
+    ensures ordered { IsOrdered tuple_cmp places.now }
+{
+    let rows = places
+        .iter()
+        .map(|(tuple, place)| (*tuple, *place))
+        .collect(alloc)?;
+    Ok(rows)
+}
+
+/// The tuple at each place, and whether each row has a place of its own.
+fn tuples_of(
+    alloc: Global,
+    rows: &[LayoutRow],
+) -> Result<(BTreeMap<Place, TupleId>, bool), NoMemory>
+    ensures indexed { IfOk result (λ made. (p : Place) → tree.get place_cmp made.0 p ≡ tuple_at rows.now p) }
+    ensures apart { IfOk result (λ made. made.1 ≡ true → IsTrue (have_own_places rows.now)) }
+{
+    let mut tuples = BTreeMap::new(alloc);
+    let mut differ = true;
+    // From the last row to the first, so that the first one of a place stays.
+    for i in (0..rows.len()).rev() {
+        let row = rows[i];
+        let later = tuples.insert(row.place, row.tuple)?;
+        differ = differ && later.is_none();
+    }
+    Ok((tuples, differ))
 }
 
 fn is_bad_row(row: &LayoutRow, shape: &Shape, tuples: &TupleMap) -> bool

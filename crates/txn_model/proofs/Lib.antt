@@ -1,4 +1,5 @@
 pub mod SortedRows
+pub mod AscendingRows
 pub mod TupleOrder
 pub mod OperandLaws
 pub mod PlaceOrder

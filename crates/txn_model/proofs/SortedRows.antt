@@ -1,7 +1,8 @@
 -- A look-up and a write by binary search, in rows whose keys strictly rise.
-use Rattle.std.proofs.Common.{◌≡◌, ◌≢◌, ℕ, zero, suc, ◌+◌, ◌<◌, Bool, true, false, cond, ◌&&◌, T, IsTrue, List, [], ◌∷◌, length, get_or, set, Some, None, Result, Ok, Err, MatchResult, HoldsAt, inl, inr, refl, sym, ap, subst, ◌∙◌, arith, Ordering, Less, Equal, Greater, is_lt, is_eq}
+use Rattle.std.proofs.Common.{◌≡◌, ◌≢◌, ℕ, zero, suc, ◌+◌, ◌<◌, Bool, true, false, cond, ◌&&◌, T, IsTrue, List, [], ◌∷◌, length, get_or, set, Some, None, Result, Ok, Err, MatchOption, HoldsAt, inl, inr, refl, sym, ap, subst, ◌∙◌, arith, Ordering, Less, Equal, Greater, is_lt, is_eq}
 use Rattle.std.specs.Cmp.{IsTotalOrder}
 use Rattle.std.specs.Ordering.{ordering_reverse}
+use Rattle.std.specs.Result.{result_ok}
 use Rattle.std.specs.FinMap.{IsAntisymmetric, is_sorted, find, put, get, insert, entries, from_sorted, same_entries_map, entries-from_sorted, entries-insert, get-from_sorted}
 use Rattle.std.specs.FinMap.Entries.{below_all, is_sorted-put}
 use Rattle.std.specs.List.Sorted.{IsBinarySearchResult, IsSearchInRange, IsSortedBy}
@@ -83,9 +84,9 @@ module _ {K X : Type 0} {R : K → K → Ordering} (o : IsTotalOrder R) where
       let above : R q x.0 ≡ Greater = flipped o x.0 q (o.antisymm x.0 q ∙ ap ordering_reverse (sym (o.congr at.0 q x.0 e) ∙ flipped o x.0 at.0 (below_at x.0 es (left _ _ h) i d (omega arith)))) in
       rw above (ap (λ rest. x ∷ rest) (put_at same es (right _ _ h) q v i d (omega arith) e))
 
-  -- what a binary search by key answers: the place of the key, or that it isn't there
+  -- where a binary search by key finds the key, or that it isn't there
   pub searched : (es : List (K × X)) → IsTrue (is_sorted R es) → (q : K) (r : Result ℕ ℕ) → IsSearchInRange r (length es) → IsBinarySearchResult (λ e. R e.0 q) es r
-      → MatchResult r (λ i. (i < length es) × HoldsAt (λ e. R e.0 q ≡ Equal) es i) (λ _. find R q es ≡ None)
+      → MatchOption (result_ok r) (find R q es ≡ None) (λ i. (i < length es) × HoldsAt (λ e. R e.0 q ≡ Equal) es i)
   searched es h q (Ok i) range found = (range, found)
   searched es h q (Err i) range parted =
       let gap = parted (searchable_from_sorted o (λ e. e.0) es q (neighbours es h)) in

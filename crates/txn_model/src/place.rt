@@ -1,6 +1,6 @@
 //! Places of hot tuples in the switch, and maps from places to numbers.
 
-ghost use Rattle.std.specs.Prelude.{◌≡◌, ◌<◌, IsTrue, IsSome, IfOk, MatchResult, HoldsAt, length, None};
+ghost use Rattle.std.specs.Prelude.{◌≡◌, ◌<◌, IsTrue, IsSome, IfOk, MatchOption, HoldsAt, length, None};
 ghost use Rattle.std.specs.FinMap.{get, insert, find, entries, from_sorted, is_sorted};
 ghost use Rattle.std.specs.declared.cmp.Ordering.TheVariants.{Equal};
 ghost use Rattle.txn_model.specs.Places.{place_cmp};
@@ -37,12 +37,12 @@ impl Model for PlaceMap {
     ghost invariant = { λ m. IsTrue (fin.is_sorted place_cmp m.rows.items) };
 }
 
-/// The index of the place's row; Err where there is none.
-fn search(rows: &[(Place, i64)], place: Place) -> Result<usize, usize>
+/// Where the place's row stands; None where there is none.
+fn row_of(rows: &[(Place, i64)], place: Place) -> Option<usize>
     requires { IsTrue (is_sorted place_cmp rows.now) }
-    ensures { MatchResult result (λ i. (i < length rows.now) × HoldsAt (λ row. place_cmp row.0 place ≡ Equal) rows.now i) (λ _. find place_cmp place rows.now ≡ None) }
+    ensures { MatchOption result (find place_cmp place rows.now ≡ None) (λ i. (i < length rows.now) × HoldsAt (λ row. place_cmp row.0 place ≡ Equal) rows.now i) }
 {
-    rows.binary_search_by_key(&place, |&(key, _)| key)
+    rows.binary_search_by_key(&place, |&(key, _)| key).ok()
 }
 
 impl PlaceMap {
@@ -60,9 +60,9 @@ impl PlaceMap {
     pub fn get(&self, place: Place) -> Option<i64>
         ensures { result ≡ get self.now place }
     {
-        match search(self.rows.as_slice(), place) {
-            Ok(at) => Some(self.rows[at].1),
-            Err(_) => None,
+        match row_of(self.rows.as_slice(), place) {
+            Some(at) => Some(self.rows[at].1),
+            None => None,
         }
     }
 
@@ -71,7 +71,7 @@ impl PlaceMap {
         requires there { IsSome (get self.old place) }
         ensures { self.new ≡ insert self.old place value }
     {
-        if let Ok(at) = search(self.rows.as_slice(), place) {
+        if let Some(at) = row_of(self.rows.as_slice(), place) {
             self.rows[at] = (place, value);
         }
     }

@@ -1,16 +1,16 @@
 //! Tuple maps: finite maps from tuples to their values.
 
-ghost use Rattle.std.specs.Prelude.{◌≡◌, ◌<◌, IsTrue, IsSome, IfOk, MatchResult, HoldsAt, length, None};
-ghost use Rattle.std.specs.declared.cmp.Ordering.TheVariants.{Equal};
-ghost use Rattle.std.specs.FinMap.{get, insert, find, entries, from_sorted, is_sorted};
+ghost use Rattle.std.specs.Prelude.{◌≡◌, IsTrue, IsSome, IfOk};
+ghost use Rattle.std.specs.FinMap.{get, insert, entries, from_sorted, is_sorted};
 ghost use Rattle.txn_model.specs.Tuples.{tuple_cmp};
 
 use crate::items::NoMemory;
 use crate::op::TupleId;
+use crate::rows::row_of;
 use std::alloc::Global;
 use std::marker::Model;
 
-/// A finite map from tuples to numbers, in the order of the tuples. A look-up takes logarithmic time.
+/// A finite map from tuples to numbers, in the order of the tuples. A look-up takes logarithmic time at most.
 #[derive(Debug, Drop)]
 pub struct TupleMap {
     rows: Vec<(TupleId, i64)>,
@@ -30,14 +30,6 @@ impl Model for TupleMap {
     ghost invariant = { λ m. IsTrue (fin.is_sorted tuple_cmp m.rows.items) };
 }
 
-/// The place of the tuple's row; Err where there is none.
-fn search(rows: &[(TupleId, i64)], tuple: TupleId) -> Result<usize, usize>
-    requires { IsTrue (is_sorted tuple_cmp rows.now) }
-    ensures { MatchResult result (λ i. (i < length rows.now) × HoldsAt (λ row. tuple_cmp row.0 tuple ≡ Equal) rows.now i) (λ _. find tuple_cmp tuple rows.now ≡ None) }
-{
-    rows.binary_search_by_key(&tuple.0, |&(key, _)| key.0)
-}
-
 impl TupleMap {
     /// The map with these rows.
     pub fn of(alloc: Global, rows: &[(TupleId, i64)]) -> Result<TupleMap, NoMemory>
@@ -53,9 +45,9 @@ impl TupleMap {
     pub fn get(&self, tuple: TupleId) -> Option<i64>
         ensures { result ≡ get self.now tuple }
     {
-        match search(self.rows.as_slice(), tuple) {
-            Ok(at) => Some(self.rows[at].1),
-            Err(_) => None,
+        match row_of(self.rows.as_slice(), tuple) {
+            Some(at) => Some(self.rows[at].1),
+            None => None,
         }
     }
 
@@ -64,7 +56,7 @@ impl TupleMap {
         requires there { IsSome (get self.old tuple) }
         ensures { self.new ≡ insert self.old tuple value }
     {
-        if let Ok(at) = search(self.rows.as_slice(), tuple) {
+        if let Some(at) = row_of(self.rows.as_slice(), tuple) {
             self.rows[at] = (tuple, value);
         }
     }

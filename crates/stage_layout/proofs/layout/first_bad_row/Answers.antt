@@ -1,7 +1,7 @@
 use Rattle.std.proofs.Common.{arith, rules, sym}
 use Rattle.stage_layout.specs.Layout.{is_bad_row}
 use Rattle.stage_layout.proofs.Firsts.{position_is, position_none}
-use Rattle.stage_layout.proofs.layout.first_bad_row.Invariants.{no_row}
+use Rattle.stage_layout.proofs.NoRow.{no_row}
 use Rattle.stage_layout.proofs.layout.first_bad_row.Goals as goal
 
 pub returns-then-is_bad_row : goal.returns-then-is_bad_row

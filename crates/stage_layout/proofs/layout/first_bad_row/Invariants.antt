@@ -1,10 +1,7 @@
 use Rattle.std.proofs.Common.{◌≡◌, ℕ, ◌<◌, false, get_or}
-use Rattle.stage_layout.specs.declared.layout.LayoutRow.{LayoutRow}
 use Rattle.stage_layout.specs.Layout.{is_bad_row}
+use Rattle.stage_layout.proofs.NoRow.{no_row}
 use Rattle.stage_layout.proofs.layout.first_bad_row.Given as goal
-
-abbrev pub no_row : LayoutRow
-no_row = record { tuple = record { 0 = 0 }; place = record { stage = 0; array = 0; cell = 0 } }
 
 -- no row so far is a bad one
 abbrev pub invariant-loop-i : goal.invariant-loop-i

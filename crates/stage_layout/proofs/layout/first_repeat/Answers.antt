@@ -4,7 +4,7 @@ use Rattle.stage_layout.specs.declared.layout.LayoutRow.{LayoutRow}
 use Rattle.stage_layout.specs.Layout.{repeats}
 use Rattle.stage_layout.proofs.Firsts.{first_is, first_none, one_more_fails}
 use Rattle.stage_layout.proofs.Repeats.{either_is_known, both_are_new}
-use Rattle.stage_layout.proofs.layout.first_repeat.Invariants.{no_row}
+use Rattle.stage_layout.proofs.NoRow.{no_row}
 use Rattle.stage_layout.proofs.layout.first_repeat.Goals as goal
 
 pub returns-then-not-is_new_tuple : goal.returns-then-not-is_new_tuple

@@ -4,12 +4,9 @@ use Rattle.txn_model.specs.Places.{place_cmp}
 use Rattle.txn_model.specs.Tuples.{tuple_cmp}
 use Rattle.txn_model.specs.declared.op.TupleId.{TupleId}
 use Rattle.txn_model.specs.declared.place.Place.{Place}
-use Rattle.stage_layout.specs.declared.layout.LayoutRow.{LayoutRow}
 use Rattle.stage_layout.specs.Layout.{names_tuple, names_place, repeats}
+use Rattle.stage_layout.proofs.NoRow.{no_row}
 use Rattle.stage_layout.proofs.layout.first_repeat.Given as goal
-
-abbrev pub no_row : LayoutRow
-no_row = record { tuple = record { 0 = 0 }; place = record { stage = 0; array = 0; cell = 0 } }
 
 -- the sets have what the rows so far name, and none of these repeats an earlier one
 abbrev pub invariant-loop-i : goal.invariant-loop-i

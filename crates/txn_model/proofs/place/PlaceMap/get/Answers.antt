@@ -5,14 +5,14 @@ use Rattle.txn_model.proofs.SortedRows.{get_at, get_absent}
 use Rattle.txn_model.proofs.PlaceOrder.{place_cmp_total}
 use Rattle.txn_model.proofs.place.PlaceMap.get.Goals as goal
 
-pub returns-in-Ok : goal.returns-in-Ok
-returns-in-Ok c =
+pub returns-in-Some : goal.returns-in-Some
+returns-in-Some c =
     let row = c.index.result.now in
     let fits : SFits w64 row.1 = search rules in
-    let found = rw c.as_slice.ensures.value at c.in-Ok.ensures in
-    ap Some (to_z-of_z w64 row.1 fits) ∙ sym (ap (λ m. fin.get m c.args.place) (sym c.self.view_is) ∙ get_at place_cmp_total _ c.self.invariant c.args.place c.in-Ok.at row found.0 (found.1 row) c.index.ensures)
+    let found = rw c.as_slice.ensures.value at c.in-Some.ensures in
+    ap Some (to_z-of_z w64 row.1 fits) ∙ sym (ap (λ m. fin.get m c.args.place) (sym c.self.view_is) ∙ get_at place_cmp_total _ c.self.invariant c.args.place c.in-Some.at row found.0 (found.1 row) c.index.ensures)
 
-pub returns-in-Err : goal.returns-in-Err
-returns-in-Err c =
-    let none = rw c.as_slice.ensures.value at c.in-Err.ensures in
+pub returns-in-None : goal.returns-in-None
+returns-in-None c =
+    let none = rw c.as_slice.ensures.value at c.in-None.ensures in
     sym (ap (λ m. fin.get m c.args.place) (sym c.self.view_is) ∙ get_absent place_cmp_total _ c.self.invariant c.args.place none)

@@ -8,15 +8,15 @@ use Rattle.txn_model.proofs.place.PlaceMap.set.Goals as goal
 
 pub invariant_of-self : goal.invariant_of-self
 invariant_of-self c =
-    let found = rw c.as_slice.ensures.value at c.in-Ok.ensures in
+    let found = rw c.as_slice.ensures.value at c.in-Some.ensures in
     let row : Place × ℤ = (c.args.place, c.args.value) in
-    (insert_at place_cmp_total place_cmp_exact _ c.self.invariant c.args.place _ c.in-Ok.at row found.0 (found.1 row)).0
+    (insert_at place_cmp_total place_cmp_exact _ c.self.invariant c.args.place _ c.in-Some.at row found.0 (found.1 row)).0
 
-pub returns-in-Ok : goal.returns-in-Ok
-returns-in-Ok c =
-    let found = rw c.as_slice.ensures.value at c.in-Ok.ensures in
+pub returns-in-Some : goal.returns-in-Some
+returns-in-Some c =
+    let found = rw c.as_slice.ensures.value at c.in-Some.ensures in
     let row : Place × ℤ = (c.args.place, c.args.value) in
-    (insert_at place_cmp_total place_cmp_exact _ c.self.invariant c.args.place _ c.in-Ok.at row found.0 (found.1 row)).1
+    (insert_at place_cmp_total place_cmp_exact _ c.self.invariant c.args.place _ c.in-Some.at row found.0 (found.1 row)).1
     ∙ ap (λ (v : ℤ). fin.insert (fin.from_sorted c.self.inside.rows.items) c.args.place v) (to_z-of_z w64 c.args.value c.ranges.value)
     ∙ ap (λ m. fin.insert m c.args.place c.args.value) c.self.view_is
 
