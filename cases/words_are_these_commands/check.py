@@ -52,11 +52,13 @@ LOAD_VALUES = [
     b"", b"0", b"1", b"2", b"008", b"9", b"10", b"15", b"16", b"17", b"100", b"101", b"1024", b"1025", b"4097", b"32768", b"32769", b"65536", b"65537",
     b"18446744073709551615", b"18446744073709551616", b"a", b"b", b"c", b"A", b"d", b"ab", b"1 ", b"b\xff",
 ]
+# a value of each option that may stand once
+ONE_VALUE = {**{option: b"1" for option in LOAD_OPTIONS}, b"customers": b"16", b"records": b"16", b"mix": b"a"}
 # words behind `gen` or `drive`, and a load
 LOAD_WORDS = [
     [], [b"--"], [b"ycsb"], [b"--hot"], [b"--hot", b"--share=1"], [b"--hot", b"-1"], [b"--threads=1"], [b"--draws=1"], [b"--K=ycsb"], [b"--Hot=1"],
     [b"--mix=a", b"--mix=a"], [b"--hot=1", b"--hot", b"1"], [b"--", b"--hot=1"],
-    [b"--customers=5", b"--hot=5"], [b"--records=65536", b"--hot=65536"], [b"--records=16", b"--hot", b"17"], [b"--records", b"16", b"--hot=0"],
+    [b"--customers", b"5"], [b"--customers=5", b"--hot=5"], [b"--records=65536", b"--hot=65536"], [b"--records=16", b"--hot", b"17"], [b"--records", b"16", b"--hot=0"],
     [b"--clients=8", b"--scripts=512"], [b"--clients=8", b"--scripts=513"], [b"--clients=1", b"--scripts=4096"], [b"--clients=5", b"--scripts=820"],
     [b"--share", b"7", b"--number=3", b"--scripts=1", b"--clients=2", b"--hot=9"], [b"--mix=c", b"--ops=16", b"--scripts=2"],
 ]
@@ -83,6 +85,8 @@ def load_tails():
     for load in LOADS:
         yield from ([load, *words] for words in LOAD_WORDS)
         yield from ([*words, load] for words in LOAD_WORDS)
+        yield from ([load, b"--" + option, value] for option, value in ONE_VALUE.items())
+        yield from ([b"--" + option + b"=" + value, load, b"--" + option, value] for option, value in ONE_VALUE.items())
         yield from ([b"--" + option + b"=" + value, load] for option in LOAD_OPTIONS for value in LOAD_VALUES)
 
 
