@@ -1,10 +1,22 @@
 -- The first least one of the numbers so far.
-use Rattle.std.proofs.Common.{◌≡◌, ℕ, ◌+◌, ◌<◌, ◌≤◌, Bool, true, false, inl, inr, arith, refl, sym, ap, subst, ◌∙◌}
+use Rattle.std.proofs.Common.{◌≡◌, ℕ, ◌+◌, ◌<◌, ◌≤◌, Bool, true, false, inl, inr, arith, refl, sym, subst, ◌∙◌}
 use Rattle.std.specs.Prelude.{MatchOption, Option, Some, None, nat_le, if◌then◌else◌}
-use Rattle.std.proofs.lemmas.Bool.{cases_eq, cases_lt}
+use Rattle.std.proofs.lemmas.Bool.{cases_lt}
 use Rattle.std.proofs.lemmas.Bool.Decides.{nat_tests}
 use Rattle.declust.specs.Greedy.{IsFirstLeast}
 use Rattle.declust.specs.declared.columns.Choice.{Choice}
+
+-- the best of those so far has a cost
+abbrev pub IsPriced : Option Choice → Type 0
+IsPriced best = MatchOption best (Unit {0}) (λ choice. 1 ≤ choice.shared)
+
+pub priced_takes : (n shared : ℕ) (best new : Option Choice) → IsPriced best → 1 ≤ shared
+    → MatchOption best (new ≡ Some (record { array = n; shared = shared })) (λ choice. new ≡ (if nat_le choice.shared shared then Some choice else Some (record { array = n; shared = shared }))) → IsPriced new
+priced_takes n shared None new old priced is = subst IsPriced (sym is) priced
+priced_takes n shared (Some choice) new old priced is =
+    let other : Choice = record { array = n; shared = shared } in
+    let go : (b : Bool) → IsPriced (if b then Some choice else Some other) = λ b. elim b as (λ b. IsPriced (if b then Some choice else Some other)) [ true ↦ old | false ↦ priced ] in
+    subst IsPriced (sym is) (go (nat_le choice.shared shared))
 
 module _ (test : ℕ → Bool) (cost : ℕ → ℕ) where
   -- none of the first n passes
@@ -73,6 +85,21 @@ module _ (test : ℕ → Bool) (cost : ℕ → ℕ) where
             subst (IsBest (n + 1)) (sym same) (price, next_takes n choice.array old.1 here (omega (arith, lt, price, old.0))))
       ] in
       go (nat_le choice.shared shared) refl is
+
+  -- the next number, where it passes at no cost
+  pub free_takes : (len n : ℕ) (best : Option Choice) → IsBest n best → IsPriced best → n < len → test n ≡ true → cost n ≡ 0 → IsFirstLeast len test cost n
+  free_takes len n None old priced lt here free = record {
+    within = lt;
+    passes = here;
+    least = λ j within passing. omega (arith, free);
+    first = λ j low passing. clash (test j) passing (old j low);
+  }
+  free_takes len n (Some choice) old priced lt here free = record {
+    within = lt;
+    passes = here;
+    least = λ j within passing. omega (arith, free);
+    first = λ j low passing. omega (arith, free, priced, old.0, old.1.least j low passing);
+  }
 
 -- the same number, where tests and costs are the same below n
 pub least_same : (n m : ℕ) (test other : ℕ → Bool) (cost price : ℕ → ℕ) (k : ℕ) → n ≡ m → ((a : ℕ) → a < n → test a ≡ other a) → ((a : ℕ) → a < n → cost a ≡ price a)
