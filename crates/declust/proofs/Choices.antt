@@ -86,21 +86,6 @@ module _ (test : ℕ → Bool) (cost : ℕ → ℕ) where
       ] in
       go (nat_le choice.shared shared) refl is
 
-  -- the next number, where it passes at no cost
-  pub free_takes : (len n : ℕ) (best : Option Choice) → IsBest n best → IsPriced best → n < len → test n ≡ true → cost n ≡ 0 → IsFirstLeast len test cost n
-  free_takes len n None old priced lt here free = record {
-    within = lt;
-    passes = here;
-    least = λ j within passing. omega (arith, free);
-    first = λ j low passing. clash (test j) passing (old j low);
-  }
-  free_takes len n (Some choice) old priced lt here free = record {
-    within = lt;
-    passes = here;
-    least = λ j within passing. omega (arith, free);
-    first = λ j low passing. omega (arith, free, priced, old.0, old.1.least j low passing);
-  }
-
 -- the same number, where tests and costs are the same below n
 pub least_same : (n m : ℕ) (test other : ℕ → Bool) (cost price : ℕ → ℕ) (k : ℕ) → n ≡ m → ((a : ℕ) → a < n → test a ≡ other a) → ((a : ℕ) → a < n → cost a ≡ price a)
     → IsFirstLeast n test cost k → IsFirstLeast m other price k
