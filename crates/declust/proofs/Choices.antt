@@ -1,10 +1,22 @@
 -- The first least one of the numbers so far.
-use Rattle.std.proofs.Common.{◌≡◌, ℕ, ◌+◌, ◌<◌, ◌≤◌, Bool, true, false, inl, inr, arith, refl, sym, ap, subst, ◌∙◌}
+use Rattle.std.proofs.Common.{◌≡◌, ℕ, ◌+◌, ◌<◌, ◌≤◌, Bool, true, false, inl, inr, arith, refl, sym, subst, ◌∙◌}
 use Rattle.std.specs.Prelude.{MatchOption, Option, Some, None, nat_le, if◌then◌else◌}
-use Rattle.std.proofs.lemmas.Bool.{cases_eq, cases_lt}
+use Rattle.std.proofs.lemmas.Bool.{cases_lt}
 use Rattle.std.proofs.lemmas.Bool.Decides.{nat_tests}
 use Rattle.declust.specs.Greedy.{IsFirstLeast}
 use Rattle.declust.specs.declared.columns.Choice.{Choice}
+
+-- the best of those so far has a cost
+abbrev pub IsPriced : Option Choice → Type 0
+IsPriced best = MatchOption best (Unit {0}) (λ choice. 1 ≤ choice.shared)
+
+pub priced_takes : (n shared : ℕ) (best new : Option Choice) → IsPriced best → 1 ≤ shared
+    → MatchOption best (new ≡ Some (record { array = n; shared = shared })) (λ choice. new ≡ (if nat_le choice.shared shared then Some choice else Some (record { array = n; shared = shared }))) → IsPriced new
+priced_takes n shared None new old priced is = subst IsPriced (sym is) priced
+priced_takes n shared (Some choice) new old priced is =
+    let other : Choice = record { array = n; shared = shared } in
+    let go : (b : Bool) → IsPriced (if b then Some choice else Some other) = λ b. elim b as (λ b. IsPriced (if b then Some choice else Some other)) [ true ↦ old | false ↦ priced ] in
+    subst IsPriced (sym is) (go (nat_le choice.shared shared))
 
 module _ (test : ℕ → Bool) (cost : ℕ → ℕ) where
   -- none of the first n passes

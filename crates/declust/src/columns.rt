@@ -51,6 +51,10 @@ impl Columns {
         for array in 0..self.taken.len() as u8 {
             if self.has_room(array, cells) {
                 let shared = self.touching(array, uses);
+                if shared == 0 {
+                    // No other array shares less, and none before this one as little.
+                    return Some(array);
+                }
                 best = better(best, Choice { array, shared });
             }
         }

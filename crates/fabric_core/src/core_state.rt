@@ -44,6 +44,7 @@ pub(crate) struct CoreState {
 impl CoreState {
     /// Lets an actor take its turn, behind this many moves. A client's record is appended to its log before
     /// the client moves.
+    #[inline(always)]
     pub fn turn<L: LogRack>(
         &mut self,
         alloc: Global,
@@ -66,6 +67,7 @@ impl CoreState {
     }
 
     /// Lets a client take its turn, behind this many moves.
+    #[inline(always)]
     fn step<L: LogRack>(
         &mut self,
         alloc: Global,

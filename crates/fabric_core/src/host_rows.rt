@@ -19,6 +19,7 @@ use txn_model::{Act, Op, Script};
 
 impl CoreState {
     /// Asks for the lock of an operation of the script, which is the next one on a host.
+    #[inline(never)]
     pub fn ask(
         &mut self,
         session: &Session,
@@ -67,6 +68,7 @@ impl CoreState {
     }
 
     /// Releases the lock that the client took last, which is that of this operation.
+    #[inline(never)]
     pub fn release(
         &mut self,
         session: &Session,
@@ -88,6 +90,7 @@ impl CoreState {
     }
 
     /// Decides the client's transaction, and puts it into the history with its reply.
+    #[inline(never)]
     pub fn decide(&mut self, session: &Session, item: &Item, client: u8)
         requires { (s : State) × (at : ℕ) × IsActionIn (plan_of session.now) self.old client at (plain_item item.now) Action.Decide s }
         ensures follows { (s : State) (at : ℕ) → IsActionIn (plan_of session.now) self.old client at (plain_item item.now) Action.Decide s
@@ -106,6 +109,7 @@ impl CoreState {
     }
 
     /// Installs the value of this operation, which is the client's next one, and releases its lock.
+    #[inline(never)]
     pub fn install(
         &mut self,
         session: &Session,

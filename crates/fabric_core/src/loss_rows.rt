@@ -15,6 +15,7 @@ use client_phase::{Action, Met};
 impl CoreState {
     /// Loses the switch with all that it has; false where it is lost already. What is unanswered leaves the
     /// history, and the client goes on to its next item.
+    #[inline(never)]
     pub fn lose(&mut self, session: &Session, item: &Item, client: u8) -> bool
         requires { (s : State) × (at : ℕ) × IsActionIn (plan_of session.now) self.old client at (plain_item item.now) Action.Lose s }
         ensures turn { (s : State) (at : ℕ) → IsActionIn (plan_of session.now) self.old client at (plain_item item.now) Action.Lose s

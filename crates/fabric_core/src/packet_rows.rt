@@ -30,6 +30,7 @@ use warm_split::join_pairs;
 impl CoreState {
     /// Puts what the client is about to do in the switch into its log: the packet of its script, and the
     /// number above which its own will be.
+    #[inline(never)]
     pub fn log_intent<L: LogRack>(
         &mut self,
         alloc: Global,
@@ -72,6 +73,7 @@ impl CoreState {
     }
 
     /// Posts the packet that stands last in the client's log; false where the switch is lost.
+    #[inline(never)]
     pub fn post(&mut self, session: &Session, item: &Item, client: u8) -> bool
         requires action { (s : State) × (at : ℕ) × IsActionIn (plan_of session.now) self.old client at (plain_item item.now) Action.Post s }
         ensures turn { (s : State) (at : ℕ) → IsActionIn (plan_of session.now) self.old client at (plain_item item.now) Action.Post s
@@ -142,6 +144,7 @@ impl CoreState {
 
     /// Lets the packet of a client enter the switch; false where it can't, or the switch is lost. At its first entry it gets its
     /// number, and an unanswered entry of its transaction goes into the history.
+    #[inline(always)]
     pub fn enter_port(&mut self, session: &Session, client: u8) -> bool
         requires { (s : State) × (at : ℕ) × IsTurnIn (plan_of session.now) self.old (Port client) at s }
         ensures turn { (s : State) (at : ℕ) → IsTurnIn (plan_of session.now) self.old (Port client) at s
@@ -167,6 +170,7 @@ impl CoreState {
 
     /// Lets the packet at a stage be executed and go on; false where there is none, it can't, or the switch is
     /// lost.
+    #[inline(always)]
     pub fn advance(&mut self, session: &Session, stage: u8) -> bool
         requires { (s : State) × (at : ℕ) × IsTurnIn (plan_of session.now) self.old (Stage stage) at s }
         ensures turn { (s : State) (at : ℕ) → IsTurnIn (plan_of session.now) self.old (Stage stage) at s

@@ -113,6 +113,7 @@ impl<L: LogRack, N: RunName> World<L, N> {
 
     /// Lets an actor of the session take its turn. A client's record stands in its log before the client
     /// moves.
+    #[inline(always)]
     pub fn turn(&mut self, alloc: Global, actor: Actor) -> Turn
         requires actor { IsActor self.old.plan actor }
         requires goes_on { self.old.stop ≡ None }
@@ -233,6 +234,7 @@ impl<L: LogRack, N: RunName> World<L, N> {
     }
 
     /// Lets an actor take its turn, unless no client has anything left to do.
+    #[inline(always)]
     fn take(&mut self, alloc: Global, actor: Actor) -> Result<(), Halt>
         requires actor { IsActor self.old.plan actor }
         requires goes_on { self.old.stop ≡ None }

@@ -102,6 +102,7 @@ impl Pipeline {
     /// Lets the client's packet enter for the pass that it waits for. Idle exactly where none waits, slot 0 is
     /// taken, or, for the first pass, a half that it touches is held. For its first pass it gets the next number,
     /// and with two or more passes it takes the halves; for its last pass it gives them back. It takes no memory.
+    #[inline(always)]
     pub fn enter(&mut self, client: u8) -> Step
         ensures { IsStep (entered self.old client) self.old self.new result }
     {
@@ -121,6 +122,7 @@ impl Pipeline {
     /// Lets the packet leave the slot of a stage: its operations of this pass there are executed in order, and it
     /// goes to the next slot, or from the last stage to the port for its next pass, or into its client's box. Idle
     /// exactly where the slot is empty, or the next one is taken. It takes no memory.
+    #[inline(always)]
     pub fn advance(&mut self, stage: u8) -> Step
         ensures { IsStep (advanced self.old stage) self.old self.new result }
     {
@@ -240,6 +242,7 @@ impl Pipeline {
     }
 
     /// Lets the client's packet enter slot 0 for its first pass. Idle where a half that it touches is held.
+    #[inline(never)]
     fn enter_first(&mut self, client: u8) -> Step
         requires waits { IsSome (waiting_of self.old client) }
         requires free { IsTrue (has_free_first_slot self.old) }
@@ -259,6 +262,7 @@ impl Pipeline {
     }
 
     /// Lets the client's packet enter slot 0 for a later pass.
+    #[inline(never)]
     fn enter_again(&mut self, client: u8)
         requires waits { IsSome (waiting_of self.old client) }
         requires free { IsTrue (has_free_first_slot self.old) }
@@ -286,6 +290,7 @@ impl Pipeline {
     }
 
     /// Executes the operations of the client's packet that are due at the stage in whose slot it stands.
+    #[inline(never)]
     fn execute(&mut self, stage: u8, client: u8)
         requires { IsAt self.old stage client }
         ensures { (flight : PlainFlight) → in_slot self.old stage ≡ Some flight

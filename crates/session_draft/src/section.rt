@@ -94,7 +94,7 @@ fn tuple_row(value: &Value) -> Option<(TupleId, i64)>
 fn each_tuple_row(alloc: Global, list: &[Value]) -> Result<Vec<(TupleId, i64)>, Misread>
     ensures { Gives (λ rows. rows.items) result (each tuple_row_of (map view list.now)) }
 {
-    let mut rows = Vec::new(alloc);
+    let mut rows = Vec::with_capacity(alloc, list.len())?;
     for value in list {
         rows.push(tuple_row(value).ok_or(Misread::Misfit)?)?;
     }
@@ -134,7 +134,7 @@ fn layout_row(value: &Value) -> Option<RowDraft>
 fn each_layout_row(alloc: Global, list: &[Value]) -> Result<Vec<RowDraft>, Misread>
     ensures { Gives (λ rows. rows.items) result (each layout_row_of (map view list.now)) }
 {
-    let mut rows = Vec::new(alloc);
+    let mut rows = Vec::with_capacity(alloc, list.len())?;
     for value in list {
         rows.push(layout_row(value).ok_or(Misread::Misfit)?)?;
     }
@@ -152,7 +152,7 @@ pub(crate) fn layout(alloc: Global, value: &Value) -> Result<Vec<RowDraft>, Misr
 fn each_operation(alloc: Global, list: &[Value]) -> Result<Vec<OpDraft>, Misread>
     ensures { Gives (λ ops. map written_op ops.items) result (each op_of (map view list.now)) }
 {
-    let mut ops = Vec::new(alloc);
+    let mut ops = Vec::with_capacity(alloc, list.len())?;
     for value in list {
         ops.push(operation(alloc, value)?)?;
     }
@@ -172,7 +172,7 @@ fn item(alloc: Global, value: &Value) -> Result<ItemDraft, Misread>
 fn each_item(alloc: Global, list: &[Value]) -> Result<Vec<ItemDraft>, Misread>
     ensures { Gives written_items result (each item_of (map view list.now)) }
 {
-    let mut items = Vec::new(alloc);
+    let mut items = Vec::with_capacity(alloc, list.len())?;
     for value in list {
         items.push(item(alloc, value)?)?;
     }
@@ -189,7 +189,7 @@ fn each_client(alloc: Global, list: &[Value]) -> Result<Vec<Vec<ItemDraft>>, Mis
     ensures { Gives (λ clients. map written_items clients.items) result
         (each (list_each item_of) (map view list.now)) }
 {
-    let mut clients = Vec::new(alloc);
+    let mut clients = Vec::with_capacity(alloc, list.len())?;
     for value in list {
         clients.push(client(alloc, value)?)?;
     }
