@@ -1,11 +1,11 @@
 -- Generated sessions: what is drawn of one that is run, what is written of one, and what stands behind each note of these commands.
-use Rattle.std.specs.Prelude.{◌≡◌, ◌⊎◌, ℕ, ◌*◌, List, ◌++◌, codes, Option, Ok}
+use Rattle.std.specs.Prelude.{◌≡◌, ◌⊎◌, ℕ, ◌*◌, List, Option, Ok}
 use Rattle.std.specs.Io.KnownBytes.{Appends}
 use Rattle.catalogue.specs.Plan.{Plan}
 use Rattle.fabric_core.specs.Racks.{Rack}
 use Rattle.port_io.specs.WriteAll.{AppendsFront}
 use Rattle.session_reader.specs.SessionOf.{session_of}
-use Rattle.session_text.specs.Canonical.{canonical}
+use Rattle.session_text.specs.Canonical.{text_line}
 use Rattle.smallbank.specs.Bank.{bank_load}
 use Rattle.ycsb.specs.Ycsb.{ycsb_load}
 use Rattle.words_cli.specs.declared.command.Draws.{Draws}
@@ -38,16 +38,12 @@ load_way work = Driven (drawn_by (load_draws work))
 
 -- ---- `gen`
 
--- the canonical text of a session, and a newline
-abbrev pub text_line : Plan → List ℕ
-text_line session = canonical session ++ codes "\n"
-
 -- What stands behind status 0 of `gen`.
 pub record Generates (work : Work) (before after : Option (List ℕ)) : Type 0 where
-  -- exactly the text of the generated session was written
+  -- exactly the canonical text of the generated session and a newline were written
   pub printed : Appends before after (text_line (load_plan work))
-  -- and that text is read as this session
-  pub reads_back : session_of (canonical (load_plan work)) ≡ Ok (load_plan work)
+  -- and that is read as this session
+  pub reads_back : session_of (text_line (load_plan work)) ≡ Ok (load_plan work)
 
 abbrev pub ExplainsGen : Work → Note → (before after : Option (List ℕ)) → Type 0
 ExplainsGen work Done before after = Generates work before after

@@ -3,9 +3,9 @@
 ghost use Rattle.std.specs.Prelude.{◌≡◌, ◌⊎◌, Ok, IfOk};
 ghost use Rattle.port_io.specs.Cause.{Rose, HasCause};
 ghost use Rattle.session_reader.specs.SessionOf.{session_of};
-ghost use Rattle.session_text.specs.Canonical.{canonical};
+ghost use Rattle.session_text.specs.Canonical.{text_line};
 ghost use Rattle.words_cli.specs.Ranges.{IsWork};
-ghost use Rattle.p4db_top.specs.Loads.{ExplainsGen, load_plan, text_line};
+ghost use Rattle.p4db_top.specs.Loads.{ExplainsGen, load_plan};
 
 use crate::loads::load_session;
 use crate::note::Note;
@@ -35,7 +35,7 @@ pub(crate) fn generate<K: Sink>(alloc: Global, sink: &mut K, work: Work) -> Note
 fn load_text(alloc: Global, work: &Work) -> Result<Vec<u8>, NoMemory>
     requires { IsWork work.now }
     ensures text { IfOk result (λ text. text.items ≡ text_line (load_plan work.now)) }
-    ensures reads_back { IfOk result (λ _. session_of (canonical (load_plan work.now)) ≡ Ok (load_plan work.now)) }
+    ensures reads_back { IfOk result (λ _. session_of (text_line (load_plan work.now)) ≡ Ok (load_plan work.now)) }
 {
     let session = load_session(alloc, work)?;
     let mut text = write_session(alloc, &session)?;

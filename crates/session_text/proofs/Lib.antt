@@ -3,6 +3,7 @@ pub mod Shallow
 pub mod ReadsBack
 pub mod SoundItems
 pub mod WholeReadsBack
+pub mod Newline
 pub mod JsonParts
 pub mod SessionJson
 pub mod PlanBack
