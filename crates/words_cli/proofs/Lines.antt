@@ -183,7 +183,7 @@ module _ (forms : List Form) where
           ∙ (ap (entering f.name ws) (subs_find f.name forms ∙ ap (option_map sub_now) (subst (λ (n : Text). find (is_named n) forms ≡ Some f) (sym one.0) e))
           ∙ named_is f one.1 ws texts.1))
 
--- ---- the commands that are built
+-- ---- the commands of the program
 
 built_is : built (line_app built_forms) ≡ now_app built_forms
 unfolding clap_on_literals
@@ -194,7 +194,7 @@ unfolding clap_on_literals
 free_is = refl
 
 apart_is : AllByRecursion IsApart built_forms
-apart_is = (refl, (refl, (refl, (refl, (refl, tt)))))
+apart_is = (refl, (refl, (refl, (refl, (refl, (refl, (refl, tt)))))))
 
 built_line : (words : List Text) → AllByRecursion IsUtf8 words
     → guard (fault_of (line_app built_forms) words) (subcommand_of (line_app built_forms) words) ≡ option_map line_rows (line_of built_forms words)

@@ -1,5 +1,5 @@
 -- What an answer of `clap` says of a line of words.
-use Rattle.std.proofs.Common.{codes, ◌≡◌, ◌≢◌, ◌⊎◌, ◌∙◌, inl, inr, sym, ap, ap₂, refl, subst, subst₂, true, true≢false, List, [], map, map-id, Option, Some, None, is_some, unwrap_or, option_map, option_and_then, Result, Ok, Err, IsUtf8}
+use Rattle.std.proofs.Common.{codes, ◌≡◌, ◌≢◌, ◌⊎◌, ◌∙◌, inl, inr, sym, ap, ap₂, refl, subst, subst₂, true, false, true≢false, List, [], ◌∷◌, bytes_eq, map, map-id, Option, Some, None, is_some, unwrap_or, option_map, option_and_then, Result, Ok, Err, IsUtf8}
 use Rattle.std.specs.List.{AllByRecursion}
 use Rattle.clap.specs.Words.{App, Row, HasMatchesOf, first_of, kind_of, subcommand_name_of, subcommand_rows_of}
 use Rattle.clap.specs.Kinds.{HasKind, IsAmong}
@@ -10,6 +10,7 @@ use Rattle.clap.specs.declared.parser.matches.ArgMatches.{ArgMatches}
 use Rattle.clap.specs.declared.parser.matches.ArgMatches.TheViews.{out-ArgMatches}
 use Rattle.words_cli.specs.Words.{Text, Place, Piece}
 use Rattle.words_cli.specs.Forms.{line_of, value_at}
+use Rattle.words_cli.specs.Loads.{load_options}
 use Rattle.words_cli.specs.Table.{built_forms, command_by, command_of}
 use Rattle.words_cli.specs.Answers.{Answers}
 use Rattle.words_cli.specs.ClapLine.{line_app, line_rows, rows_of, values_in, word_id}
@@ -64,14 +65,27 @@ no_command_named m e = no_command_here (subcommand_rows_of m) e
 
 -- ---- the command of the words
 
--- a command looks at these places alone
-same_values : (name : Text) (f g : Place → Option Text) → f None ≡ g None → f (Some (codes "draws")) ≡ g (Some (codes "draws")) → f (Some (codes "number")) ≡ g (Some (codes "number"))
-    → f (Some (codes "threads")) ≡ g (Some (codes "threads")) → command_by name f ≡ command_by name g
-same_values name f g word draws number threads = rw (word, draws, number, threads) refl
+-- a command looks at the word that stands by itself and at these options alone
+abbrev read_options : List Text
+read_options = codes "draws" ∷ codes "threads" ∷ load_options
+
+abbrev AgreeAt : (f g : Place → Option Text) → Text → Type 0
+AgreeAt f g name = f (Some name) ≡ g (Some name)
+
+same_values : (name : Text) (f g : Place → Option Text) → f None ≡ g None → AllByRecursion (AgreeAt f g) read_options → command_by name f ≡ command_by name g
+same_values name f g word (draws, (threads, (number, (clients, (scripts, (customers, (records, (hot, (share, (ops, (mix, end))))))))))) =
+    rw (word, draws, threads, number, clients, scripts, customers, records, hot, share, ops, mix) refl
+
+options_apart : AllByRecursion (λ name. bytes_eq word_id name ≡ false) read_options
+options_apart = (refl, (refl, (refl, (refl, (refl, (refl, (refl, (refl, (refl, (refl, (refl, tt)))))))))))
+
+options_agree : (names : List Text) (ps : List Piece) → AllByRecursion (λ name. bytes_eq word_id name ≡ false) names
+    → AllByRecursion (AgreeAt (values_in (rows_of ps)) (λ place. value_at place ps)) names
+options_agree [] ps apart = tt
+options_agree (name ∷ names) ps apart = (value_of_option name apart.0 ps, options_agree names ps apart.1)
 
 line_values : (name : Text) (ps : List Piece) → first_of word_id (rows_of ps) ≡ value_at None ps → command_by name (values_in (rows_of ps)) ≡ command_by name (λ place. value_at place ps)
-line_values name ps word =
-    same_values name (values_in (rows_of ps)) (λ place. value_at place ps) word (value_of_option (codes "draws") refl ps) (value_of_option (codes "number") refl ps) (value_of_option (codes "threads") refl ps)
+line_values name ps word = same_values name (values_in (rows_of ps)) (λ place. value_at place ps) word (options_agree read_options ps options_apart)
 
 same_command : (words : List Text) (o : Option (Text × List Piece)) → line_of built_forms words ≡ o
     → option_and_then {T = Text × List Row} (λ s. command_by s.0 (values_in s.1)) (option_map line_rows o) ≡ option_and_then {T = Text × List Piece} (λ line. command_by line.0 (λ place. value_at place line.1)) o

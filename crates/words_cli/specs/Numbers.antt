@@ -9,6 +9,10 @@ use Rattle.words_cli.specs.Words.{Text}
 abbrev pub is_number : Text → Bool
 is_number text = nat_lt 0 (length text) && (nat_le (length text) 20 && list_all is_ascii_digit text)
 
+-- the greatest number that seeds a generator
+abbrev pub most_number : ℕ
+most_number = 18446744073709551615
+
 -- the number that the text writes, where it is one from `least` to `most`
 abbrev pub number_in : ℕ → ℕ → Text → Option ℕ
 number_in least most text = if is_number text && (nat_le least (digits_value 10 text) && nat_le (digits_value 10 text) most) then Some (digits_value 10 text) else None

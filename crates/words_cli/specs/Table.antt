@@ -3,9 +3,10 @@ use Rattle.std.specs.Prelude.{ℕ, true, false, List, [], ◌∷◌, codes, Opti
 use Rattle.std.specs.Str.{bytes_eq}
 use Rattle.words_cli.specs.Words.{Text, Place}
 use Rattle.words_cli.specs.Forms.{Form, line_of, value_at}
-use Rattle.words_cli.specs.Numbers.{number_in}
+use Rattle.words_cli.specs.Numbers.{most_number, number_in}
+use Rattle.words_cli.specs.Loads.{with_load, work_of}
 use Rattle.words_cli.specs.declared.command.Command.{Command}
-use Rattle.words_cli.specs.declared.command.Command.TheVariants.{Run, Race, Recover, Hot, Layout}
+use Rattle.words_cli.specs.declared.command.Command.TheVariants.{Run, Race, Recover, Hot, Layout, Gen, Drive}
 use Rattle.words_cli.specs.declared.command.Draws.{Draws}
 
 -- a command that takes nothing, one that takes one word, and one that takes options
@@ -18,22 +19,20 @@ of_a_word name = record { name = name; options = []; takes_word = true }
 abbrev pub with_options : Text → List Text → Form
 with_options name options = record { name = name; options = options; takes_word = false }
 
--- the commands that are built
+-- the commands
 abbrev pub built_forms : List Form
 built_forms =
     with_options (codes "run") (codes "draws" ∷ codes "number" ∷ []) ∷
     with_options (codes "race") (codes "threads" ∷ []) ∷
     bare (codes "recover") ∷
     of_a_word (codes "hot") ∷
-    of_a_word (codes "layout") ∷ []
+    of_a_word (codes "layout") ∷
+    with_load (codes "gen") ∷
+    with_load (codes "drive") ∷ []
 
--- the greatest number of drawn actors, the greatest number that seeds a generator, the greatest number of threads, and the greatest
--- number of tuples that `hot` and `layout` take
+-- the greatest number of drawn actors, the greatest number of threads, and the greatest number of tuples that `hot` and `layout` take
 abbrev pub most_draws : ℕ
 most_draws = 1000000
-
-abbrev pub most_number : ℕ
-most_number = 18446744073709551615
 
 abbrev pub most_threads : ℕ
 most_threads = 8
@@ -66,7 +65,9 @@ command_by name values =
     (if bytes_eq name (codes "race") then option_map Race (threads_of (values (Some (codes "threads")))) else
     (if bytes_eq name (codes "recover") then Some Recover else
     (if bytes_eq name (codes "hot") then option_map Hot (count_of (values None)) else
-    (if bytes_eq name (codes "layout") then option_map Layout (count_of (values None)) else None))))
+    (if bytes_eq name (codes "layout") then option_map Layout (count_of (values None)) else
+    (if bytes_eq name (codes "gen") then option_map Gen (work_of values) else
+    (if bytes_eq name (codes "drive") then option_map Drive (work_of values) else None))))))
 
 -- the command that the words are
 abbrev pub command_of : List Text → Option Command

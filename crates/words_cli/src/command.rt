@@ -1,5 +1,7 @@
 //! The commands of the program.
 
+use catalogue::{BankPlan, YcsbPlan};
+
 /// A command, as the words name it.
 #[derive(Clone, Copy, Debug, PartialEq, Eq)]
 pub enum Command {
@@ -25,6 +27,19 @@ pub enum Command {
         /// How many tuples at most, 0 to 65,536.
         k: u32,
     },
+    /// `gen`: prints the session that the load is.
+    Gen(Work),
+    /// `drive`: runs the session that the load is and prints its report.
+    Drive(Work),
+}
+
+/// A load, by what its session is generated from.
+#[derive(Clone, Copy, Debug, PartialEq, Eq)]
+pub enum Work {
+    /// `smallbank`: transactions over the accounts of customers.
+    SmallBank(BankPlan),
+    /// `ycsb`: reads and writes of records.
+    Ycsb(YcsbPlan),
 }
 
 /// What a schedule is drawn from.

@@ -6,12 +6,14 @@
 #![tactic(auto)]
 
 mod command;
+mod given;
 mod line;
+mod loads;
 mod number;
 mod read;
 mod values;
 
-pub use command::{Command, Draws, WordFault};
+pub use command::{Command, Draws, WordFault, Work};
 pub use read::command_of;
 
 #[cfg(test)]

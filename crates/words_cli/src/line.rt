@@ -3,6 +3,7 @@
 ghost use Rattle.std.specs.Prelude.{◌≡◌, IfOk, map};
 ghost use Rattle.clap.specs.Words.{app_of, with_subcommand};
 ghost use Rattle.words_cli.specs.ClapLine.{IsLocal, bare_app, form_app, form_shape, line_app};
+ghost use Rattle.words_cli.specs.Loads.{with_load};
 ghost use Rattle.words_cli.specs.Table.{built_forms};
 
 use clap::{Arg, ArgAction, Command};
@@ -59,6 +60,24 @@ fn with_form<'a>(
     line.subcommand(added)
 }
 
+/// The line with one more command, which takes a load.
+fn with_load<'a>(alloc: Global, line: Command<'a>, name: &'a str) -> Result<Command<'a>, AllocError>
+    ensures { IfOk result (λ c. app_of c ≡ with_subcommand (app_of line.entry) (form_shape (with_load name.now))) }
+{
+    let options = [
+        "number",
+        "clients",
+        "scripts",
+        "customers",
+        "records",
+        "hot",
+        "share",
+        "ops",
+        "mix",
+    ];
+    with_form(alloc, line, name, &options, true)
+}
+
 /// The program's command line.
 pub(crate) fn command_line<'a>(alloc: Global) -> Result<Command<'a>, AllocError>
     ensures { IfOk result (λ c. app_of c ≡ line_app built_forms) }
@@ -68,5 +87,7 @@ pub(crate) fn command_line<'a>(alloc: Global) -> Result<Command<'a>, AllocError>
     let race = with_form(alloc, run, "race", &["threads"], false)?;
     let recover = with_form(alloc, race, "recover", &no_options, false)?;
     let hot = with_form(alloc, recover, "hot", &no_options, true)?;
-    with_form(alloc, hot, "layout", &no_options, true)
+    let layout = with_form(alloc, hot, "layout", &no_options, true)?;
+    let generate = with_load(alloc, layout, "gen")?;
+    with_load(alloc, generate, "drive")
 }

@@ -22,7 +22,8 @@ fn is_number(text: &str) -> bool
     0 < bytes.len() && bytes.len() <= MOST_DIGITS && are_digits(bytes)
 }
 
-fn within(number: u64, least: u64, most: u64) -> Option<u64>
+/// The number, where it is one from `least` to `most`.
+pub(crate) fn within(number: u64, least: u64, most: u64) -> Option<u64>
     ensures value { result ≡ cond (nat_le least number && nat_le number most) (Some number) None }
     ensures range { IfSome result (λ n. (least ≤ n) × (n ≤ most)) }
 {

@@ -3,12 +3,15 @@
 ghost use Rattle.std.specs.Prelude.{◌≡◌, ◌≤◌, codes, Some, None, IfSome, option_map};
 ghost use Rattle.clap.specs.Words.{first_of, found_of, rows_of};
 ghost use Rattle.words_cli.specs.ClapLine.{values_in};
+ghost use Rattle.words_cli.specs.Loads.{work_of};
 ghost use Rattle.words_cli.specs.Numbers.{number_in};
 ghost use Rattle.words_cli.specs.Ranges.{InRange};
 ghost use Rattle.words_cli.specs.Table.{command_by, count_of, draws_by, most_draws, most_threads, most_tuples, run_by, threads_of};
 
 use crate::command::{Command, Draws};
+use crate::given::value_of;
 use crate::line::WORD;
+use crate::loads::work_of;
 use crate::number::number_in;
 use clap::ArgMatches;
 
@@ -20,13 +23,6 @@ const MOST_THREADS: u64 = 8;
 
 /// The most tuples that `hot` and `layout` take.
 const MOST_TUPLES: u64 = 65_536;
-
-/// The value that the option has, or the word that stands by itself.
-fn value_of<'a>(given: &ArgMatches<'a>, id: &str) -> Option<&'a str>
-    ensures { option_map (λ text. text.now) result ≡ first_of id.now (rows_of (found_of given.now)) }
-{
-    given.get_str(id)
-}
 
 /// What a schedule is drawn from, by the two options.
 fn draws_in(count: &str, number: &str) -> Option<Draws>
@@ -101,6 +97,22 @@ fn layout(given: &ArgMatches) -> Option<Command>
     Some(Command::Layout { k })
 }
 
+fn generate(given: &ArgMatches) -> Option<Command>
+    ensures value { result ≡ option_map Command.Gen (work_of (values_in (rows_of (found_of given.now)))) }
+    ensures range { IfSome result InRange }
+{
+    let work = work_of(given)?;
+    Some(Command::Gen(work))
+}
+
+fn drive(given: &ArgMatches) -> Option<Command>
+    ensures value { result ≡ option_map Command.Drive (work_of (values_in (rows_of (found_of given.now)))) }
+    ensures range { IfSome result InRange }
+{
+    let work = work_of(given)?;
+    Some(Command::Drive(work))
+}
+
 /// What the command of this name makes of what it was given.
 pub(crate) fn command_by(name: &str, given: &ArgMatches) -> Option<Command>
     ensures value { result ≡ command_by name.now (values_in (rows_of (found_of given.now))) }
@@ -112,6 +124,8 @@ pub(crate) fn command_by(name: &str, given: &ArgMatches) -> Option<Command>
         "recover" => Some(Command::Recover),
         "hot" => hot(given),
         "layout" => layout(given),
+        "gen" => generate(given),
+        "drive" => drive(given),
         _ => None,
     }
 }
