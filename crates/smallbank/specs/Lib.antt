@@ -1,0 +1,4 @@
+pub mod Scripts
+pub mod Bank
+pub mod Total
+pub mod TotalLaws
