@@ -43,5 +43,12 @@ pub(crate) fn drive<K: Sink, L: LogRack>(
     let Ok(actors) = actors_of(alloc, &session, Some(load_draws(&work))) else {
         return (Note::NoMemory, rack);
     };
-    run_named::<L, K, Brand>(alloc, session, actors.as_slice(), Output::Summary, sink, rack)
+    run_named::<L, K, Brand>(
+        alloc,
+        session,
+        actors.as_slice(),
+        Output::Summary,
+        sink,
+        rack,
+    )
 }

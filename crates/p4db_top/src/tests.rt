@@ -231,7 +231,10 @@ fn a_generated_session_is_run(rt: HostRuntime) -> Result<(), Fail> {
         &OpenGate,
     );
     assert_eq!(rt; ended.note, Note::Done);
-    assert!(rt; sink.content().starts_with(b"replies 1\nc0 1 cold 0.1 100>100 100>100 100>100 "));
+    assert!(rt;
+        sink.content()
+            .starts_with(b"replies 1\nc0 1 cold 0.1 100>100 100>100 100>100 ")
+    );
     Ok(())
 }
 
