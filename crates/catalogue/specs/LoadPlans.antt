@@ -9,8 +9,8 @@ pub record IsWithinPlans (clients scripts keys hot share : ℕ) : Type 0 where
   pub most_clients : clients ≤ 8
   pub some_scripts : 1 ≤ scripts
   pub items : clients * scripts ≤ 4096
-  pub hot : hot ≤ keys
-  pub share : share ≤ 100
+  pub most_hot : hot ≤ keys
+  pub most_share : share ≤ 100
 
 pub record IsBankPlan (plan : BankPlan) : Type 0 where
   pub within : IsWithinPlans plan.clients plan.scripts plan.customers plan.hot plan.share

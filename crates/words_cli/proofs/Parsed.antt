@@ -10,7 +10,7 @@ use Rattle.clap.specs.declared.parser.matches.ArgMatches.{ArgMatches}
 use Rattle.clap.specs.declared.parser.matches.ArgMatches.TheViews.{out-ArgMatches}
 use Rattle.words_cli.specs.Words.{Text, Place, Piece}
 use Rattle.words_cli.specs.Forms.{line_of, value_at}
-use Rattle.words_cli.specs.Loads.{load_options}
+use Rattle.words_cli.specs.Loads.{Values, load_options, work_by}
 use Rattle.words_cli.specs.Table.{built_forms, command_by, command_of}
 use Rattle.words_cli.specs.Answers.{Answers}
 use Rattle.words_cli.specs.ClapLine.{line_app, line_rows, rows_of, values_in, word_id}
@@ -69,12 +69,16 @@ no_command_named m e = no_command_here (subcommand_rows_of m) e
 abbrev read_options : List Text
 read_options = codes "draws" ∷ codes "threads" ∷ load_options
 
-abbrev AgreeAt : (f g : Place → Option Text) → Text → Type 0
+abbrev AgreeAt : (f g : Values) → Text → Type 0
 AgreeAt f g name = f (Some name) ≡ g (Some name)
 
-same_values : (name : Text) (f g : Place → Option Text) → f None ≡ g None → AllByRecursion (AgreeAt f g) read_options → command_by name f ≡ command_by name g
-same_values name f g word (draws, (threads, (number, (clients, (scripts, (customers, (records, (hot, (share, (ops, (mix, end))))))))))) =
-    rw (word, draws, threads, number, clients, scripts, customers, records, hot, share, ops, mix) refl
+same_work : (word : Option Text) (f g : Values) → AllByRecursion (AgreeAt f g) load_options → work_by word f ≡ work_by word g
+same_work None f g agree = refl
+same_work (Some word) f g (number, (clients, (scripts, (customers, (records, (hot, (share, (ops, (mix, end))))))))) =
+    rw (number, clients, scripts, customers, records, hot, share, ops, mix) refl
+
+same_values : (name : Text) (f g : Values) → f None ≡ g None → AllByRecursion (AgreeAt f g) read_options → command_by name f ≡ command_by name g
+same_values name f g word (draws, (threads, load)) = rw (word, draws, load.0, threads, same_work (g None) f g load) refl
 
 options_apart : AllByRecursion (λ name. bytes_eq word_id name ≡ false) read_options
 options_apart = (refl, (refl, (refl, (refl, (refl, (refl, (refl, (refl, (refl, (refl, (refl, tt)))))))))))
