@@ -8,7 +8,7 @@ use Rattle.clap.specs.declared.error.Error.{Error}
 use Rattle.clap.specs.declared.error.kind.ErrorKind.TheVariants as kind
 use Rattle.clap.specs.declared.parser.matches.ArgMatches.{ArgMatches}
 use Rattle.clap.specs.declared.parser.matches.ArgMatches.TheViews.{out-ArgMatches}
-use Rattle.words_cli.specs.Words.{Text, Place, Piece}
+use Rattle.words_cli.specs.Words.{Text, Piece}
 use Rattle.words_cli.specs.Forms.{line_of, value_at}
 use Rattle.words_cli.specs.Loads.{Values, load_options, work_by}
 use Rattle.words_cli.specs.Table.{built_forms, command_by, command_of}

@@ -1,4 +1,5 @@
 use super::*;
+use catalogue::{BankPlan, Mix, YcsbPlan};
 use port_io::Word;
 use std::alloc::{AllocError, Global};
 use std::test::Fail;
@@ -47,6 +48,63 @@ fn words_are_these_commands(rt: HostRuntime) -> Result<(), Fail> {
         ),
         (["run", "5"].as_slice(), Err(WordFault::Usage)),
         (["help"].as_slice(), Err(WordFault::Usage)),
+        (
+            ["gen", "smallbank"].as_slice(),
+            Ok(Command::Gen(Work::SmallBank(BankPlan {
+                number: 1,
+                clients: 4,
+                scripts: 100,
+                customers: 100,
+                hot: 10,
+                share: 80,
+            }))),
+        ),
+        (
+            [
+                "drive",
+                "--mix=b",
+                "--ops",
+                "16",
+                "ycsb",
+                "--clients=8",
+                "--scripts=0512",
+                "--hot=100",
+                "--share=0",
+                "--number=18446744073709551615",
+            ]
+            .as_slice(),
+            Ok(Command::Drive(Work::Ycsb(YcsbPlan {
+                number: 18_446_744_073_709_551_615,
+                clients: 8,
+                scripts: 512,
+                records: 100,
+                hot: 100,
+                share: 0,
+                ops: 16,
+                mix: Mix::B,
+            }))),
+        ),
+        (
+            ["gen", "ycsb", "--customers", "5"].as_slice(),
+            Err(WordFault::Usage),
+        ),
+        (
+            ["gen", "smallbank", "--customers", "5"].as_slice(),
+            Err(WordFault::Usage),
+        ),
+        (
+            ["drive", "smallbank", "--mix", "a"].as_slice(),
+            Err(WordFault::Usage),
+        ),
+        (
+            ["drive", "ycsb", "--clients=5", "--scripts=820"].as_slice(),
+            Err(WordFault::Usage),
+        ),
+        (
+            ["drive", "ycsb", "--mix=d"].as_slice(),
+            Err(WordFault::Usage),
+        ),
+        (["gen"].as_slice(), Err(WordFault::Usage)),
         ([].as_slice(), Err(WordFault::Usage)),
     ];
     for (texts, command) in cases {
