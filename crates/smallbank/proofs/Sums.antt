@@ -1,6 +1,5 @@
 -- The sum of all tuples after a write, and after a script.
-use Rattle.std.proofs.Common.{◌≡◌, ℤ, ◌+ℤ◌, ◌-ℤ◌, pos, Bool, true, false, cond, ◌&&◌, T, List, [], ◌∷◌, ◌++◌, Option, Some, None, unwrap_or, refl, sym, ap, subst, ◌∙◌, arith, Ordering, Less, Equal, Greater, is_lt, is_eq, w64}
-use Rattle.std.specs.Cmp.{IsTotalOrder}
+use Rattle.std.proofs.Common.{◌≡◌, ℤ, ◌+ℤ◌, ◌-ℤ◌, pos, Bool, true, false, cond, ◌&&◌, T, List, [], ◌∷◌, ◌++◌, Option, Some, None, unwrap_or, refl, sym, ap, ◌∙◌, arith, Ordering, Less, Equal, Greater, is_lt, is_eq, w64}
 use Rattle.std.specs.FinMap as fin
 use Rattle.std.specs.FinMap.{is_sorted, find, put, entries, entries_sorted, entries-insert, get-entries}
 use Rattle.std.specs.FinMap.Entries.{below_all, by_order}
@@ -12,7 +11,7 @@ use Rattle.txn_model.specs.declared.op.Op.{Op}
 use Rattle.txn_model.specs.declared.op.TupleId.{TupleId}
 use Rattle.txn_model.specs.declared.pairs.Pair.{Pair}
 use Rattle.txn_model.proofs.TupleOrder.{tuple_cmp_total}
-use Rattle.smallbank.specs.Total.{sum_of, total, ChangesTotal}
+use Rattle.smallbank.specs.Total.{sum_of, ChangesTotal}
 
 left : (a b : Bool) → T (a && b) → T a
 left true b h = tt

@@ -1,18 +1,18 @@
 -- By how much each script changes the total.
-use Rattle.std.proofs.Common.{◌≡◌, ℕ, ℤ, ◌+◌, ◌*◌, ◌+ℤ◌, ◌-ℤ◌, ◌*ℤ◌, neg_ℤ, pos, Bool, true, false, List, [], ◌∷◌, if◌then◌else◌, nat_eq, refl, sym, ap, ◌∙◌, arith, w64}
+use Rattle.std.proofs.Common.{◌≡◌, ℕ, ℤ, ◌+◌, ◌*◌, ◌+ℤ◌, ◌-ℤ◌, ◌*ℤ◌, neg_ℤ, pos, Bool, true, false, if◌then◌else◌, nat_eq, refl, sym, ap, ◌∙◌, arith, w64}
 use Rattle.std.specs.Prelude.{int_le}
 use Rattle.std.specs.Int.{int_wrap}
 use Rattle.std.specs.FinMap as fin
 use Rattle.std.proofs.lemmas.Bool.Decides.{nat_tests}
-use Rattle.std.proofs.lemmas.Int.{ints, int_wrap-add_left, int_wrap-add_right, int_wrap-mul_left}
-use Rattle.txn_model.specs.Number.{wrap, IsCongruent}
-use Rattle.txn_model.specs.Serial.{serial_from, serial, pair_of, operand, effect}
+use Rattle.std.proofs.lemmas.Int.{ints, int_wrap-add_right, int_wrap-mul_left}
+use Rattle.txn_model.specs.Number.{wrap}
+use Rattle.txn_model.specs.Serial.{serial_from, operand, effect}
 use Rattle.txn_model.specs.Tuples.{Tuples, value_at}
 use Rattle.txn_model.proofs.Values.{value_at-insert}
 use Rattle.txn_model.proofs.WrapLaws.{wrap_congruent}
 use Rattle.smallbank.specs.Scripts.{savings, checking, opposite, opposite_less_one, balance, deposit_checking, transact_savings, amalgamate, write_check, send_payment}
 use Rattle.smallbank.specs.TotalLaws.{BalanceKeepsTotal, DepositCheckingAddsAmount, TransactSavingsAddsAmount, AmalgamateKeepsTotal, WriteCheckTakesAmount, SendPaymentKeepsTotal}
-use Rattle.smallbank.proofs.Sums.{by_reply, changes}
+use Rattle.smallbank.proofs.Sums.{by_reply}
 
 abbrev round : ℤ
 round = pos 18446744073709551616

@@ -54,7 +54,58 @@ fn amount(dice: &mut Dice) -> i64
     1 + i64::from(dice.draw(100))
 }
 
+fn customer(plan: &BankPlan, dice: &mut Dice) -> u32
+    requires { IsBankPlan plan.now }
+    ensures value { (result, words_of dice.new) ≡ spec.customer plan.now (words_of dice.old) }
+    ensures bound { result < plan.now.customers }
+{
+    dice.key(plan.customers, plan.hot, plan.share)
+}
+
+/// A customer other than the first one.
+fn other_customer(plan: &BankPlan, first: u32, dice: &mut Dice) -> u32
+    requires plan { IsBankPlan plan.now }
+    requires first { first < plan.now.customers }
+    ensures value { (result, words_of dice.new) ≡ spec.other_customer plan.now first (words_of dice.old) }
+    ensures bound { result < plan.now.customers }
+    ensures other { first ≢ result }
+{
+    let second = customer(plan, dice);
+    if second == first {
+        (first + 1) % plan.customers
+    } else {
+        second
+    }
+}
+
+/// A script of this kind, whose first customer was drawn already.
+fn script_of(
+    alloc: Global,
+    plan: &BankPlan,
+    kind: Kind,
+    first: u32,
+    dice: &mut Dice,
+) -> Result<Script, NoMemory>
+    requires plan { IsBankPlan plan.now }
+    requires first { first < plan.now.customers }
+    ensures drawn { IfOk result (λ drawn. (drawn.items, words_of dice.new) ≡ spec.script_of plan.now kind first (words_of dice.old)) }
+    ensures fit { IfOk result (λ drawn. IsFitFor (bank_size plan.now) drawn.items) }
+{
+    match kind {
+        Kind::Balance => balance(alloc, first),
+        Kind::DepositChecking => deposit_checking(alloc, first, amount(dice)),
+        Kind::TransactSavings => transact_savings(alloc, first, amount(dice)),
+        Kind::Amalgamate => amalgamate(alloc, first, other_customer(plan, first, dice)),
+        Kind::WriteCheck => write_check(alloc, first, amount(dice)),
+        Kind::SendPayment => {
+            let second = other_customer(plan, first, dice);
+            send_payment(alloc, first, second, amount(dice))
+        }
+    }
+}
+
 /// A plan in its ranges.
+#[derive(Drop)]
 struct BankLoad {
     plan: BankPlan,
 }
@@ -68,55 +119,6 @@ impl Model for BankLoad {
     ghost view = { λ load. load.plan };
 
     ghost invariant = { λ load. IsBankPlan load.plan };
-}
-
-impl BankLoad {
-    fn customer(&self, dice: &mut Dice) -> u32
-        ensures value { (result, words_of dice.new) ≡ spec.customer self.now (words_of dice.old) }
-        ensures bound { result < self.now.customers }
-    {
-        dice.key(self.plan.customers, self.plan.hot, self.plan.share)
-    }
-
-    /// A customer other than the first one.
-    fn other_customer(&self, first: u32, dice: &mut Dice) -> u32
-        requires { first < self.now.customers }
-        ensures value { (result, words_of dice.new) ≡ spec.other_customer self.now first (words_of dice.old) }
-        ensures bound { result < self.now.customers }
-        ensures other { result ≢ first }
-    {
-        let second = self.customer(dice);
-        if second == first {
-            (first + 1) % self.plan.customers
-        } else {
-            second
-        }
-    }
-
-    /// A script of this kind, whose first customer was drawn already.
-    fn script_of(
-        &self,
-        alloc: Global,
-        kind: Kind,
-        first: u32,
-        dice: &mut Dice,
-    ) -> Result<Script, NoMemory>
-        requires { first < self.now.customers }
-        ensures drawn { IfOk result (λ drawn. (drawn.items, words_of dice.new) ≡ spec.script_of self.now kind first (words_of dice.old)) }
-        ensures fit { IfOk result (λ drawn. IsFitFor (bank_size self.now) drawn.items) }
-    {
-        Ok(match kind {
-            Kind::Balance => balance(alloc, first)?,
-            Kind::DepositChecking => deposit_checking(alloc, first, amount(dice))?,
-            Kind::TransactSavings => transact_savings(alloc, first, amount(dice))?,
-            Kind::Amalgamate => amalgamate(alloc, first, self.other_customer(first, dice))?,
-            Kind::WriteCheck => write_check(alloc, first, amount(dice))?,
-            Kind::SendPayment => {
-                let second = self.other_customer(first, dice);
-                send_payment(alloc, first, second, amount(dice))?
-            }
-        })
-    }
 }
 
 impl Load for BankLoad {
@@ -139,8 +141,8 @@ impl Load for BankLoad {
 
     fn draw(&self, alloc: Global, dice: &mut Dice) -> Result<Script, NoMemory> {
         let kind = kind_at(dice.draw(100));
-        let first = self.customer(dice);
-        self.script_of(alloc, kind, first, dice)
+        let first = customer(&self.plan, dice);
+        script_of(alloc, &self.plan, kind, first, dice)
     }
 }
 

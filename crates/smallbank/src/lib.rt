@@ -15,3 +15,6 @@ pub use laws::{
 pub use scripts::{
     amalgamate, balance, deposit_checking, send_payment, transact_savings, write_check,
 };
+
+#[cfg(test)]
+mod tests;
