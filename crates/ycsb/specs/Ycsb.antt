@@ -1,5 +1,5 @@
 -- The load of YCSB operations: each reads or puts one record.
-use Rattle.std.specs.Prelude.{ℕ, zero, suc, ℤ, ◌-◌, Bool, not, List, [], ◌∷◌, ◌++◌, nat_lt, unwrap_or, if◌then◌else◌}
+use Rattle.std.specs.Prelude.{ℕ, zero, suc, pos, ◌-◌, Bool, not, List, [], ◌∷◌, ◌++◌, nat_lt, unwrap_or, if◌then◌else◌}
 use Rattle.std.specs.List.{find, range_with_len}
 use Rattle.txn_model.specs.Needs.{needs_of}
 use Rattle.txn_model.specs.ScriptCheck.{names}
@@ -16,7 +16,7 @@ use Rattle.load_base.specs.declared.size.Size.{Size}
 
 -- record k is tuple k, 100 at first
 abbrev pub ycsb_size : YcsbPlan → Size
-ycsb_size plan = record { number = plan.number; clients = plan.clients; scripts = plan.scripts; tuples = plan.records; hot = plan.hot; value = 100 }
+ycsb_size plan = record { number = plan.number; clients = plan.clients; scripts = plan.scripts; tuples = plan.records; hot = plan.hot; value = pos 100 }
 
 -- how many of 100 operations read
 abbrev pub reads_of : Mix → ℕ
@@ -43,7 +43,7 @@ on_key key act = record { tuple = tuple key; act = act; needs = needs_of [] }
 abbrev pub drawn_act : Mix → Words → Act × Words
 drawn_act mix words =
     let d = draw 100 words in
-    if nat_lt d.0 (reads_of mix) then (Read, d.1) else (let value = draw 1000 d.1 in (Put value.0, value.1))
+    if nat_lt d.0 (reads_of mix) then (Read, d.1) else (let value = draw 1000 d.1 in (Put (pos value.0), value.1))
 
 -- the operation behind these ones: its key, and then what it does
 abbrev pub drawn_op : YcsbPlan → List Op → Words → Op × Words

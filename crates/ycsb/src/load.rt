@@ -13,6 +13,7 @@ use txn_model::{NoMemory, Script};
 const VALUE: i64 = 100;
 
 /// A plan within its ranges.
+#[derive(Clone, Copy)]
 pub(crate) struct Ycsb {
     pub(crate) plan: YcsbPlan,
     ghost within: { IsYcsbPlan plan },

@@ -1,6 +1,6 @@
 //! Scripts of drawn operations.
 
-ghost use Rattle.std.specs.Prelude.{◌≡◌, ◌<◌, ◌≤◌, ◌-◌, IfOk, length};
+ghost use Rattle.std.specs.Prelude.{◌≡◌, ◌-◌, IfOk};
 ghost use Rattle.std.specs.List.{find, range_with_len};
 ghost use Rattle.txn_model.specs.ScriptCheck.{names};
 ghost use Rattle.catalogue.specs.LoadPlans.{IsYcsbPlan};
@@ -66,7 +66,7 @@ fn reads_of(mix: Mix) -> u32
 }
 
 /// The first key that no operation has, from this one upwards and after the last one from 0.
-#[tactic(auto, unfolding(crate::specs::Ycsb::free_key))]
+#[tactic(auto, unfolding(crate::specs::Ycsb::free_key), using(crate::proofs::FreeKeys::found_here, crate::proofs::FreeKeys::found_behind))]
 fn free_key(records: u32, ops: &[Op], key: u32) -> u32
     ensures { result ≡ free_key records ops.now key }
 {
@@ -76,16 +76,11 @@ fn free_key(records: u32, ops: &[Op], key: u32) -> u32
     }
 }
 
-/// The first key of this range that no operation has.
+/// The first key of the range that no operation has.
 fn first_free(ops: &[Op], from: u32, to: u32) -> Option<u32>
     ensures { result ≡ find (is_free ops.now) (range_with_len from (to - from)) }
 {
-    for key in from..to {
-        if !names(ops, key) {
-            return Some(key);
-        }
-    }
-    None
+    (from..to).find(|key| !names(ops, *key))
 }
 
 /// Whether an operation has that key.

@@ -1,0 +1,3 @@
+pub mod FreeKeys
+pub mod FitOps
+pub mod DrawnOps
