@@ -11,3 +11,4 @@ pub mod ScriptsBack
 pub mod LimitsBack
 pub mod ScheduleBack
 pub mod SessionBack
+pub mod SessionLine
