@@ -47,7 +47,7 @@ complete_from way WriteFault rest before after old new bytes session e few is ke
 complete_from way (LogFault c) rest before after old new bytes session e few is keeps read write log = absurd (log tt)
 complete_from way (LogChanged c at) rest before after old new bytes session e few is keeps read write log =
     absurd (not_changed way session c at old new keeps
-    (subst (λ (p : Plan). Stops way p (stops.LogChanged c at) old new) (same_session bytes session e.0.session rest is e.0.reads) e.0.is))
+    (subst (λ (p : Plan). Stops way p (stops.LogChanged c at) old new) (same_session bytes session e.0.session rest is e.0.given) e.0.is))
 complete_from way InputTooLong rest before after old new bytes session e few is keeps read write log = absurd (not_beyond most_input bytes rest e.0 few)
 complete_from way (Session fault) rest before after old new bytes session e few is keeps read write log = absurd (not_refused bytes session rest fault is e.0)
 complete_from way other rest before after old new bytes session e few is keeps read write log = absurd e

@@ -14,10 +14,10 @@ use Rattle.fabric_core.specs.declared.turn.End.TheVariants as ends
 use Rattle.fabric_core.specs.declared.turn.Stop.{Stop}
 use Rattle.fabric_core.specs.declared.turn.Stop.TheVariants as stops
 use Rattle.race_run.specs.Raced.{EndsWith}
-use Rattle.report_text.specs.ReportText.{report}
-use Rattle.report_text.specs.RunReport.{run_report}
 use Rattle.p4db_top.specs.declared.note.Note.{Note}
+use Rattle.p4db_top.specs.declared.output.Output.{Output}
 use Rattle.p4db_top.specs.Order.{Driven}
+use Rattle.p4db_top.specs.Outputs.{output_text}
 use Rattle.p4db_top.specs.Ran.{Closed, Ran}
 use Rattle.p4db_top.proofs.EndedRun.{Ended, ran_of}
 
@@ -107,8 +107,8 @@ module _ {R : Type 0} (view : R → Rack) (listed : Plan → List Actor) (plan :
 
   pub driven_ran : begun ≡ first_run plan begun.rack → IsEnd begun now (view begun.rack) (view now.rack) (driven_from begun.plan (state_in begun) actors) end → actors ≡ listed plan → StaysFrom (length plan.clients) (view rack) (view begun.rack)
       → state_of now.plan now.trace ≡ Some (state_in now) → back ≡ now.rack → (view rack).keeps ≡ kept → (view rack).faults ≡ faults → (IsTrue kept → LogsMatch now.plan (state_in now) now.stop (view back)) → HasStopCause now.plan (state_in now) now.stop faults (view back)
-      → (note : Note) (before after : Option (List ℕ)) → Closed note end (report (run_report now.plan (state_in now) now.trace)) before after → Ran (Driven listed) note plan before after (view rack) (view back)
-  driven_ran is ended these apart run handed keeps counted logs cause note before after closed =
+      → (output : Output) (note : Note) (before after : Option (List ℕ)) → Closed note end (output_text output now.plan (state_in now) now.trace) before after → Ran (Driven listed) output note plan before after (view rack) (view back)
+  driven_ran is ended these apart run handed keeps counted logs cause output note before after closed =
       let s = stands plan begun now (view begun.rack) (view now.rack) actors end is ended in
       let all = subst (λ (r : R). StaysFrom (length plan.clients) (view rack) (view r)) (sym handed) (beyond plan begun now (view begun.rack) (view now.rack) actors end is ended (view rack) apart) in
-      ran_of (Driven listed) now end (view rack) (view back) (driven_ended s these run all keeps counted logs cause) plan s.same note before after closed
+      ran_of (Driven listed) output now end (view rack) (view back) (driven_ended s these run all keeps counted logs cause) plan s.same note before after closed

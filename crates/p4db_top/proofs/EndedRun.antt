@@ -14,12 +14,12 @@ use Rattle.fabric_core.specs.declared.turn.End.TheVariants as ends
 use Rattle.fabric_core.specs.declared.turn.Stop.{Stop}
 use Rattle.fabric_core.specs.declared.turn.Stop.TheVariants as stops
 use Rattle.race_run.specs.Raced.{EndsWith}
-use Rattle.report_text.specs.ReportText.{report}
-use Rattle.report_text.specs.RunReport.{run_report}
 use Rattle.p4db_top.specs.declared.note.Note.{Note}
 use Rattle.p4db_top.specs.declared.note.Note.TheVariants.{Done, WriteFault, LogFault, LogChanged, NoMemory}
+use Rattle.p4db_top.specs.declared.output.Output.{Output}
 use Rattle.p4db_top.specs.Logs.{HasLogCause, HasLogs, MakesSome, Stops}
 use Rattle.p4db_top.specs.Order.{Way, IsMade, LeavesOthers}
+use Rattle.p4db_top.specs.Outputs.{output_text}
 use Rattle.p4db_top.specs.Ran.{begin_note, Closed, Ran, Reports}
 
 -- The trace of the run is the front of one that comes about in this way, and all of it where the run has finished. `new` is the
@@ -34,7 +34,7 @@ pub record Ended {R : Type 0} (way : Way) (now : Running R) (end : End) (old new
   pub cause : HasStopCause now.plan (state_in now) now.stop old.faults new
   pub beyond : LeavesOthers way (length now.plan.clients) old new
 
-module _ {R : Type 0} (way : Way) (now : Running R) (end : End) (old new : Rack) (e : Ended way now end old new) where
+module _ {R : Type 0} (way : Way) (output : Output) (now : Running R) (end : End) (old new : Rack) (e : Ended way now end old new) where
   some : MakesSome way now.plan (state_in now)
   some = record { made = now.trace; left = e.left; whole = e.whole; run = e.run }
 
@@ -53,7 +53,7 @@ module _ {R : Type 0} (way : Way) (now : Running R) (end : End) (old new : Rack)
   ends_as : (other : End) → end ≡ other → EndsWith now other
   ends_as other same = subst (EndsWith now) same e.ended
 
-  reports : (IsWritten : List ℕ → Type 0) → end ≡ ends.Finished → IsWritten (report (run_report now.plan (state_in now) now.trace)) → Reports way IsWritten now.plan old new
+  reports : (IsWritten : List ℕ → Type 0) → end ≡ ends.Finished → IsWritten (output_text output now.plan (state_in now) now.trace) → Reports way output IsWritten now.plan old new
   reports IsWritten same written =
       let done = ends_as ends.Finished same in record {
         trace = now.trace;
@@ -65,7 +65,7 @@ module _ {R : Type 0} (way : Way) (now : Running R) (end : End) (old new : Rack)
         logs = logs_of done.1;
       }
 
-  ran_now : (note : Note) (before after : Option (List ℕ)) → Closed note end (report (run_report now.plan (state_in now) now.trace)) before after → Ran way note now.plan before after old new
+  ran_now : (note : Note) (before after : Option (List ℕ)) → Closed note end (output_text output now.plan (state_in now) now.trace) before after → Ran way output note now.plan before after old new
   ran_now Done before after c = reports _ c.0 c.1
   ran_now WriteFault before after c = reports _ c.0 c.1
   ran_now (LogFault client) before after c = (c.1, inr (stops_by (stops.LogFault client) (ends_as (ends.LogFault client) c.0)))
@@ -74,8 +74,8 @@ module _ {R : Type 0} (way : Way) (now : Running R) (end : End) (old new : Rack)
   ran_now NoMemory before after (inr c) = inr (inr (reports _ c.0 c.1))
   ran_now other before after c = absurd c
 
-  pub ran_of : (plan : Plan) → now.plan ≡ plan → (note : Note) (before after : Option (List ℕ)) → Closed note end (report (run_report now.plan (state_in now) now.trace)) before after → Ran way note plan before after old new
-  ran_of plan same note before after c = subst (λ (p : Plan). Ran way note p before after old new) same (ran_now note before after c)
+  pub ran_of : (plan : Plan) → now.plan ≡ plan → (note : Note) (before after : Option (List ℕ)) → Closed note end (output_text output now.plan (state_in now) now.trace) before after → Ran way output note plan before after old new
+  ran_of plan same note before after c = subst (λ (p : Plan). Ran way output note p before after old new) same (ran_now note before after c)
 
 -- a run that did not begin says of the rack's count what its fault does
 pub begin_cause : (fault : BeginFault) (before now : ℕ) → ((c : ℕ) → fault ≡ begins.LogFault c → Rose before now) → (fault ≡ begins.NoMemory → now ≡ before) → HasLogCause before now (begin_note fault)

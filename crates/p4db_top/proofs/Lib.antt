@@ -4,6 +4,7 @@ pub mod Claims
 pub mod DrivenRun
 pub mod RacedRun
 pub mod EndedRun
+pub mod NoLoss
 pub mod Explained
 pub mod Complete
 pub mod Printing

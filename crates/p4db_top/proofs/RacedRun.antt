@@ -15,10 +15,10 @@ use Rattle.fabric_core.specs.RecordTexts.{HasStopCause, LogsMatch}
 use Rattle.fabric_core.specs.Running.{Running, state_in}
 use Rattle.fabric_core.specs.declared.turn.End.{End}
 use Rattle.race_run.specs.Raced.{EndsWith, IsRaced}
-use Rattle.report_text.specs.ReportText.{report}
-use Rattle.report_text.specs.RunReport.{run_report}
 use Rattle.p4db_top.specs.declared.note.Note.{Note}
+use Rattle.p4db_top.specs.declared.output.Output.{Output}
 use Rattle.p4db_top.specs.Order.{MoveToTheEnd, Raced}
+use Rattle.p4db_top.specs.Outputs.{output_text}
 use Rattle.p4db_top.specs.Ran.{Closed, Ran}
 use Rattle.p4db_top.proofs.EndedRun.{Ended, ran_of}
 
@@ -47,6 +47,6 @@ module _ {R : Type 0} (view : R → Rack) (plan name : Plan) (rack : R) (now : R
   }
 
   pub raced_ran : IsRaced name now end → plan ≡ name → (view rack).keeps ≡ kept → (view rack).faults ≡ faults → (IsTrue kept → LogsMatch now.plan (state_in now) now.stop (view back)) → HasStopCause now.plan (state_in now) now.stop faults (view back)
-      → (note : Note) (before after : Option (List ℕ)) → Closed note end (report (run_report now.plan (state_in now) now.trace)) before after → Ran Raced note plan before after (view rack) (view back)
-  raced_ran raced named keeps counted logs cause note before after closed =
-      ran_of Raced now end (view rack) (view back) (raced_ended raced keeps counted logs cause) plan (raced.named ∙ sym named) note before after closed
+      → (output : Output) (note : Note) (before after : Option (List ℕ)) → Closed note end (output_text output now.plan (state_in now) now.trace) before after → Ran Raced output note plan before after (view rack) (view back)
+  raced_ran raced named keeps counted logs cause output note before after closed =
+      ran_of Raced output now end (view rack) (view back) (raced_ended raced keeps counted logs cause) plan (raced.named ∙ sym named) note before after closed

@@ -61,14 +61,14 @@ refused_is_no_write faults.NoMemory e = cc
 -- ---- notes of the command
 
 pub recovery_explained : (note : Note) (left rest before after : Option (List ℕ)) (old new : Rack) (session : Plan) → IsRead left rest session → EndsRecovery note session old before after → ExplainsRecovery note left rest before after old new
-recovery_explained Done left rest before after old new session read e = record { session = session; reads = read; is = e }
-recovery_explained WriteFault left rest before after old new session read e = record { session = session; reads = read; is = e }
-recovery_explained (LogFault c) left rest before after old new session read e = record { session = session; reads = read; is = e }
-recovery_explained (LogTooLong c) left rest before after old new session read e = record { session = session; reads = read; is = e }
-recovery_explained (LogDamaged c at) left rest before after old new session read e = record { session = session; reads = read; is = e }
-recovery_explained (BadIntent c seq) left rest before after old new session read e = record { session = session; reads = read; is = e }
-recovery_explained NoOrder left rest before after old new session read e = record { session = session; reads = read; is = e }
-recovery_explained NoMemory left rest before after old new session read e = inr (record { session = session; reads = read; is = e })
+recovery_explained Done left rest before after old new session read e = record { session = session; given = read; is = e }
+recovery_explained WriteFault left rest before after old new session read e = record { session = session; given = read; is = e }
+recovery_explained (LogFault c) left rest before after old new session read e = record { session = session; given = read; is = e }
+recovery_explained (LogTooLong c) left rest before after old new session read e = record { session = session; given = read; is = e }
+recovery_explained (LogDamaged c at) left rest before after old new session read e = record { session = session; given = read; is = e }
+recovery_explained (BadIntent c seq) left rest before after old new session read e = record { session = session; given = read; is = e }
+recovery_explained NoOrder left rest before after old new session read e = record { session = session; given = read; is = e }
+recovery_explained NoMemory left rest before after old new session read e = inr (record { session = session; given = read; is = e })
 recovery_explained other left rest before after old new session read e = absurd e
 
 pub unread_explained : (note : Note) (left rest before : Option (List ℕ)) (old new : Rack) → StopsReading note left rest → ExplainsRecovery note left rest before before old new
@@ -115,12 +115,12 @@ the_session bytes session other rest is r =
 
 -- logs that can be recovered are refused for want of memory alone
 not_unordered : (bytes : List ℕ) (session : Plan) (rest : Option (List ℕ)) (old : Rack) (fault : RecoveryFault) → session_of bytes ≡ Ok session → IsRecoverable session old.told
-    → OfSession (Some bytes) rest (λ s. Recovers s old.told (Err fault)) → (IsFailure fault → ⊥) → fault ≡ faults.NoMemory
+    → OfSession (IsRead (Some bytes) rest) (λ s. Recovers s old.told (Err fault)) → (IsFailure fault → ⊥) → fault ≡ faults.NoMemory
 not_unordered bytes session rest old fault is can r whole =
-    is_owed session old.told fault (subst (λ (s : Plan). Recovers s old.told (Err fault)) (the_session bytes session r.session rest is r.reads) r.is) can whole
+    is_owed session old.told fault (subst (λ (s : Plan). Recovers s old.told (Err fault)) (the_session bytes session r.session rest is r.given) r.is) can whole
 
-of_session : (left rest : Option (List ℕ)) (P : Plan → Type 0) (Q : Type 0) → OfSession left rest (λ s. P s × Q) → OfSession left rest P
-of_session left rest P Q o = record { session = o.session; reads = o.reads; is = o.is.0 }
+of_session : (left rest : Option (List ℕ)) (P : Plan → Type 0) (Q : Type 0) → OfSession (IsRead left rest) (λ s. P s × Q) → OfSession (IsRead left rest) P
+of_session left rest P Q o = record { session = o.session; given = o.given; is = o.is.0 }
 
 pub recovery_owed : (note : Note) (rest before after : Option (List ℕ)) (old new : Rack) (bytes : List ℕ) (session : Plan) → ExplainsRecovery note (Some bytes) rest before after old new → length bytes ≤ most_input → session_of bytes ≡ Ok session
     → IsRecoverable session old.told → (note ≡ ReadFault → ⊥) → (note ≡ WriteFault → ⊥) → (IsLogFault note → ⊥) → (note ≡ Done) ⊎ (note ≡ NoMemory)

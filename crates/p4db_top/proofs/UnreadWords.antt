@@ -4,7 +4,7 @@ use Rattle.port_io.specs.ReadAll.{TakesWithin}
 use Rattle.fabric_core.specs.Racks.{Rack}
 use Rattle.words_cli.specs.Answers.{Answers}
 use Rattle.words_cli.specs.declared.command.Command.{Command}
-use Rattle.words_cli.specs.declared.command.Command.TheVariants.{Run, Race, Recover, Hot, Layout}
+use Rattle.words_cli.specs.declared.command.Command.TheVariants.{Run, Race, Recover, Hot, Layout, Gen, Drive}
 use Rattle.words_cli.specs.declared.command.WordFault.{WordFault}
 use Rattle.words_cli.specs.declared.command.WordFault.TheVariants as words
 use Rattle.p4db_top.specs.declared.note.Note.{Note}
@@ -22,6 +22,8 @@ no_memory_by (Race threads) left before rack = inl (nothing_taken left, refl, re
 no_memory_by Recover left before rack = inl (nothing_taken left, refl)
 no_memory_by (Hot k) left before rack = inl (nothing_taken left, refl)
 no_memory_by (Layout k) left before rack = inl (nothing_taken left, refl)
+no_memory_by (Gen work) left before rack = inl refl
+no_memory_by (Drive work) left before rack = inl (refl, refl)
 
 unread_by : (wanted : Option Command) (note : Note) (left before : Option (List ℕ)) (rack : Rack) → (note ≡ Usage → wanted ≡ None) → (note ≡ Usage) ⊎ (note ≡ NoMemory) → ExplainsWords wanted note left left before before rack rack
 unread_by None note left before rack none either = either

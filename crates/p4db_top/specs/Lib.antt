@@ -2,10 +2,12 @@ pub mod Order
 pub mod Serial
 pub mod Status
 pub mod Logs
+pub mod Outputs
 pub mod Headline
 pub mod Ran
 pub mod Prints
 pub mod Drawing
 pub mod Layouts
+pub mod Loads
 pub mod Recovering
 pub mod Commands

@@ -12,7 +12,7 @@ use Rattle.switch_recovery.specs.declared.recovered.RecoveryFault.{RecoveryFault
 use Rattle.switch_recovery.specs.declared.recovered.RecoveryFault.TheVariants as faults
 use Rattle.p4db_top.specs.declared.note.Note.{Note}
 use Rattle.p4db_top.specs.declared.note.Note.TheVariants.{Done, ReadFault, InputTooLong, WriteFault, Session, LogFault, LogDamaged, LogTooLong, BadIntent, NoOrder, NoMemory}
-use Rattle.p4db_top.specs.Headline.{most_input, OfSession, Refuses}
+use Rattle.p4db_top.specs.Headline.{most_input, IsRead, OfSession, Refuses}
 
 -- each log of the session's clients is told and read, and some order of their packets fits
 abbrev pub CanRecover : Plan → Rack → Type 0
@@ -26,7 +26,7 @@ pub record OfRecovery (session : Plan) (old : Rack) (Is : List ℕ → Type 0) :
 
 -- a session was read, and exactly the recovered order of its logs was written
 abbrev pub PrintsRecovered : (left rest before after : Option (List ℕ)) (old : Rack) → Type 0
-PrintsRecovered left rest before after old = OfSession left rest (λ session. OfRecovery session old (Appends before after))
+PrintsRecovered left rest before after old = OfSession (IsRead left rest) (λ session. OfRecovery session old (Appends before after))
 
 -- what stands behind each note of recovering a session that was read
 abbrev pub EndsRecovery : Note → Plan → Rack → (before after : Option (List ℕ)) → Type 0
@@ -46,8 +46,8 @@ ExplainsRecovery ReadFault left rest before after old new = TakesWithin most_inp
 ExplainsRecovery InputTooLong left rest before after old new = TakesBeyond most_input left rest × (after ≡ before)
 ExplainsRecovery (Session fault) left rest before after old new = Refuses left rest fault × (after ≡ before)
 ExplainsRecovery NoMemory left rest before after old new =
-    (TakesWithin most_input left rest × (after ≡ before)) ⊎ OfSession left rest (λ session. EndsRecovery NoMemory session old before after)
-ExplainsRecovery note left rest before after old new = OfSession left rest (λ session. EndsRecovery note session old before after)
+    (TakesWithin most_input left rest × (after ≡ before)) ⊎ OfSession (IsRead left rest) (λ session. EndsRecovery NoMemory session old before after)
+ExplainsRecovery note left rest before after old new = OfSession (IsRead left rest) (λ session. EndsRecovery note session old before after)
 
 -- the note of a fault of recovery
 abbrev pub note_of : RecoveryFault → Note

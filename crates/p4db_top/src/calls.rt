@@ -7,7 +7,7 @@ ghost use Rattle.session_reader.specs.SessionOf.{session_of};
 ghost use Rattle.fabric_core.specs.Racks.{seen};
 ghost use Rattle.words_cli.specs.Table.{command_of};
 ghost use Rattle.words_cli.specs.declared.command.Command.{Command};
-ghost use Rattle.p4db_top.specs.Commands.{CanDo, ExplainsWords, IsRace, Promises, TouchesLogs};
+ghost use Rattle.p4db_top.specs.Commands.{CanDo, CanGenerate, ExplainsWords, IsRace, Promises, ReadsNothing, TouchesLogs};
 ghost use Rattle.p4db_top.specs.Headline.{most_input};
 ghost use Rattle.p4db_top.specs.Logs.{HasLogCause, IsOfNoRun};
 ghost use Rattle.p4db_top.specs.Status.{status_of};
@@ -61,9 +61,11 @@ fn note_of(fault: WordFault) -> Note
 /// record in its client's log before the client moves, and writes its report to the sink, in one piece. Its
 /// actors are those of the session's schedule, or drawn ones. `recover` reads a session and the logs, and
 /// writes the order that they tell. `hot K` and `layout K` read a session and write the list of its K most
-/// used tuples, and a layout of them; they touch no log. The words are none of `race`: that is `top`'s.
+/// used tuples, and a layout of them; they touch no log. `gen` writes the text of a session that it generates,
+/// and touches no log; `drive` runs such a session as `run` does, by drawn actors, and writes its summary. Both
+/// leave the source as it is. The words are none of `race`: that is `top`'s.
 ///
-/// Status 0 says that the output was written, and for `run` that the headline holds. The other statuses:
+/// Status 0 says that the output was written, and for `run` and `drive` that the headline holds. The other statuses:
 /// 2 `Usage` exactly where the words are no command; 3 `ReadFault` only where the source's count of
 /// failures rose, and `InputTooLong` exactly where a byte beyond 16,777,216 was read; 4 `WriteFault` only
 /// where the sink's count rose; 5 exactly by the bytes, after the source was read to its end; 6 `LogFault`
@@ -92,6 +94,9 @@ pub fn command<S: Source, K: Sink, L: LogRack + Send>(
     ensures explained { ExplainsWords (command_of words.now) result.note (S.left source.old) (S.left source.new) (K.content sink.old) (K.content sink.new)
         (seen (L.told logs) (L.keeps logs) (L.faults logs)) (seen (L.told result.logs) (L.keeps result.logs) (L.faults result.logs)) }
 
+    // A session that is generated is not read.
+    ensures unread { (command : Command) → command_of words.now ≡ Some command → ReadsNothing command → source.new ≡ source.old }
+
     // Where nothing was run, the logs are those that were handed in.
     ensures logs { IsOfNoRun result.note → result.logs ≡ logs }
     ensures lists { (command : Command) → command_of words.now ≡ Some command → (TouchesLogs command → ⊥) → result.logs ≡ logs }
@@ -113,6 +118,11 @@ pub fn command<S: Source, K: Sink, L: LogRack + Send>(
         → CanDo command session (seen (L.told logs) (L.keeps logs) (L.faults logs)) (seen (L.told result.logs) (L.keeps result.logs) (L.faults result.logs))
         → (Rose (S.faults source.old) (S.faults source.new) → ⊥) → (Rose (K.faults sink.old) (K.faults sink.new) → ⊥)
         → (result.note ≡ Note.Done) ⊎ (result.note ≡ Note.NoMemory) }
+
+    // So is it with a session that is generated.
+    ensures loads { (command : Command) → command_of words.now ≡ Some command
+        → CanGenerate command (seen (L.told logs) (L.keeps logs) (L.faults logs)) (seen (L.told result.logs) (L.keeps result.logs) (L.faults result.logs))
+        → (Rose (K.faults sink.old) (K.faults sink.new) → ⊥) → (result.note ≡ Note.Done) ⊎ (result.note ≡ Note.NoMemory) }
 {
     match command_of(alloc, words) {
         Ok(command) => end_of(obey(alloc, command, source, sink, logs)),
@@ -145,6 +155,9 @@ pub fn top<R: Threads + Wait + Sync, S: Source, K: Sink, L: LogRack + Send, G: G
     ensures explained { ExplainsWords (command_of words.now) result.note (S.left source.old) (S.left source.new) (K.content sink.old) (K.content sink.new)
         (seen (L.told logs) (L.keeps logs) (L.faults logs)) (seen (L.told result.logs) (L.keeps result.logs) (L.faults result.logs)) }
 
+    // A session that is generated is not read.
+    ensures unread { (command : Command) → command_of words.now ≡ Some command → ReadsNothing command → source.new ≡ source.old }
+
     // Where nothing was run, the logs are those that were handed in.
     ensures logs { IsOfNoRun result.note → result.logs ≡ logs }
     ensures lists { (command : Command) → command_of words.now ≡ Some command → (TouchesLogs command → ⊥) → result.logs ≡ logs }
@@ -166,6 +179,11 @@ pub fn top<R: Threads + Wait + Sync, S: Source, K: Sink, L: LogRack + Send, G: G
         → CanDo command session (seen (L.told logs) (L.keeps logs) (L.faults logs)) (seen (L.told result.logs) (L.keeps result.logs) (L.faults result.logs))
         → (Rose (S.faults source.old) (S.faults source.new) → ⊥) → (Rose (K.faults sink.old) (K.faults sink.new) → ⊥)
         → (result.note ≡ Note.Done) ⊎ (result.note ≡ Note.NoMemory) }
+
+    // So is it with a session that is generated.
+    ensures loads { (command : Command) → command_of words.now ≡ Some command
+        → CanGenerate command (seen (L.told logs) (L.keeps logs) (L.faults logs)) (seen (L.told result.logs) (L.keeps result.logs) (L.faults result.logs))
+        → (Rose (K.faults sink.old) (K.faults sink.new) → ⊥) → (result.note ≡ Note.Done) ⊎ (result.note ≡ Note.NoMemory) }
 {
     match command_of(alloc, words) {
         Ok(Command::Race { threads }) => {

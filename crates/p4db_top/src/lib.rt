@@ -1,4 +1,4 @@
-//! The program's top call: words and the bytes of a source in, a report to a sink out.
+//! The program's top call: words and the bytes of a source in, a report or another text to a sink out.
 //!
 //! `command` and `top` carry the headline theorem. They know no file and no terminal: sources, sinks and racks
 //! are handed in.
@@ -6,11 +6,15 @@
 
 mod calls;
 mod closing;
+mod driving;
+mod generating;
 mod hot;
 mod layout;
 mod listed;
+mod loads;
 mod note;
 mod obeying;
+mod output;
 mod racing;
 mod reading;
 mod recovering;

@@ -7,11 +7,13 @@ ghost use Rattle.catalogue.specs.Sound.{IsSound};
 ghost use Rattle.fabric_core.specs.Racks.{seen};
 ghost use Rattle.p4db_top.specs.Headline.{Explains};
 ghost use Rattle.p4db_top.specs.Logs.{HasLogCause, IsOfNoRun};
+ghost use Rattle.p4db_top.specs.declared.output.Output.{Output};
 ghost use Rattle.p4db_top.specs.Order.{Raced};
 ghost use Rattle.p4db_top.specs.Ran.{Ran};
 
 use crate::closing::close;
 use crate::note::Note;
+use crate::output::Output;
 use crate::reading::session_of;
 use crate::running::note_of;
 use catalogue::Session;
@@ -73,7 +75,7 @@ fn race_named<
     requires kept { L.keeps rack ≡ N.kept }
     requires some { 1 ≤ threads }
     requires few { threads ≤ 8 }
-    ensures ran { Ran Raced result.0 (plan_of session) (K.content sink.old) (K.content sink.new)
+    ensures ran { Ran Raced Output.Report result.0 (plan_of session) (K.content sink.old) (K.content sink.new)
         (seen (L.told rack) (L.keeps rack) (L.faults rack)) (seen (L.told result.1) (L.keeps result.1) (L.faults result.1)) }
     ensures write_cause { HasCause (K.faults sink.old) (K.faults sink.new) (result.0 ≡ Note.WriteFault) }
     ensures log_cause { HasLogCause (L.faults rack) (L.faults result.1) result.0 }
@@ -84,5 +86,5 @@ fn race_named<
         Err((rack, fault)) => return (note_of(fault), rack),
     };
     let (world, end) = race(rt, alloc, world, threads, gate);
-    close(alloc, world, end, sink)
+    close(alloc, world, end, Output::Report, sink)
 }

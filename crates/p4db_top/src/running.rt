@@ -16,6 +16,7 @@ ghost use Rattle.p4db_top.specs.Ran.{Ran, begin_note};
 use crate::closing::close;
 use crate::listed::actors_of;
 use crate::note::Note;
+use crate::output::Output;
 use crate::reading::session_of;
 use catalogue::{Actor, Session};
 use fabric_core::{BeginFault, RunName, World};
@@ -51,14 +52,22 @@ pub(crate) fn run<S: Source, K: Sink, L: LogRack>(
     let Ok(actors) = actors_of(alloc, &session, draws) else {
         return (Note::NoMemory, rack);
     };
-    run_named::<L, K, Brand>(alloc, session, actors.as_slice(), sink, rack)
+    run_named::<L, K, Brand>(
+        alloc,
+        session,
+        actors.as_slice(),
+        Output::Report,
+        sink,
+        rack,
+    )
 }
 
-/// Runs a session by these actors and then by the rota, prints the report of its run, and hands the logs back.
-fn run_named<L: LogRack, K: Sink, N: RunName>(
+/// Runs a session by these actors and then by the rota, prints this of its run, and hands the logs back.
+pub(crate) fn run_named<L: LogRack, K: Sink, N: RunName>(
     alloc: Global,
     session: Session,
     actors: &[Actor],
+    output: Output,
     sink: &mut K,
     rack: L,
 ) -> (Note, L)
@@ -67,7 +76,7 @@ fn run_named<L: LogRack, K: Sink, N: RunName>(
     requires faults { L.faults rack ≡ N.faults }
     requires kept { L.keeps rack ≡ N.kept }
     requires actors { All (IsActor (plan_of session)) actors.now }
-    ensures ran { (listed : Plan → List Actor) → actors.now ≡ listed (plan_of session) → Ran (Driven listed) result.0 (plan_of session) (K.content sink.old) (K.content sink.new)
+    ensures ran { (listed : Plan → List Actor) → actors.now ≡ listed (plan_of session) → Ran (Driven listed) output result.0 (plan_of session) (K.content sink.old) (K.content sink.new)
         (seen (L.told rack) (L.keeps rack) (L.faults rack)) (seen (L.told result.1) (L.keeps result.1) (L.faults result.1)) }
     ensures read { result.0 ≢ Note.ReadFault }
     ensures told { result.0 ≢ Note.Session SessionFault.NoMemory }
@@ -83,7 +92,7 @@ fn run_named<L: LogRack, K: Sink, N: RunName>(
 
     // What the world keeps: its trace is one of moves.
     let _ = world.trace();
-    close(alloc, world, end, sink)
+    close(alloc, world, end, output, sink)
 }
 
 /// Why no run began.

@@ -177,3 +177,86 @@ fn two_threads_meet_in_a_race(rt: HostRuntime) -> Result<(), Fail> {
     assert!(rt; printed.ends_with(b" c0 c0\n"));
     Ok(())
 }
+
+/// A client that reads each of sixteen records.
+const READS: &[&str] = &[
+    "ycsb",
+    "--records=16",
+    "--ops=16",
+    "--mix=c",
+    "--hot=0",
+    "--clients=1",
+    "--scripts=1",
+];
+
+/// The words of a command with that load.
+fn load_words(alloc: Global, name: &str) -> Result<Vec<Word>, AllocError> {
+    let mut all = words(alloc, &[name])?;
+    for text in READS {
+        all.push(Word::of(String::from_str(alloc, text)?))?;
+    }
+    Ok(all)
+}
+
+// What is generated is a session that runs.
+#[test]
+fn a_generated_session_is_run(rt: HostRuntime) -> Result<(), Fail> {
+    let alloc = rt.alloc();
+    let generating = load_words(alloc, "gen")?;
+    let mut empty = CleanSource::of(bytes(alloc, "")?);
+    let mut text = CleanSink::fresh(alloc);
+    let rack = CleanRack::fresh(alloc);
+    let ended = top(
+        &rt,
+        alloc,
+        generating.as_slice(),
+        &mut empty,
+        &mut text,
+        rack,
+        &OpenGate,
+    );
+    assert_eq!(rt; ended.note, Note::Done);
+    assert!(rt; text.content().ends_with(b",[15,100]]}\n"));
+
+    let running = words(alloc, &["run"])?;
+    let mut source = CleanSource::of(Vec::from_slice(alloc, text.content())?);
+    let mut sink = CleanSink::fresh(alloc);
+    let ended = top(
+        &rt,
+        alloc,
+        running.as_slice(),
+        &mut source,
+        &mut sink,
+        ended.logs,
+        &OpenGate,
+    );
+    assert_eq!(rt; ended.note, Note::Done);
+    assert!(rt;
+        sink.content()
+            .starts_with(b"replies 1\nc0 1 cold 0.1 100>100 100>100 100>100 ")
+    );
+    Ok(())
+}
+
+#[test]
+fn a_generated_session_is_driven(rt: HostRuntime) -> Result<(), Fail> {
+    let alloc = rt.alloc();
+    let words = load_words(alloc, "drive")?;
+    let mut source = CleanSource::of(bytes(alloc, "")?);
+    let mut sink = CleanSink::fresh(alloc);
+    let rack = CleanRack::fresh(alloc);
+    let ended = top(
+        &rt,
+        alloc,
+        words.as_slice(),
+        &mut source,
+        &mut sink,
+        rack,
+        &OpenGate,
+    );
+    assert_eq!(rt; ended.note, Note::Done);
+    let printed = sink.content();
+    assert!(rt; printed.starts_with(b"hot 0\nwarm 0\ncold 1\naborted 0\nlost 0\nmoves "));
+    assert!(rt; printed.ends_with(b"\ntotal 1600\n"));
+    Ok(())
+}

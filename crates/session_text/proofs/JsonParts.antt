@@ -24,6 +24,7 @@ use Rattle.serde_json.proofs.Texts.{print-outline}
 use Rattle.session_draft.specs.Json.{json_of}
 use Rattle.session_draft.proofs.BytesAsJson.{json_of-some}
 use Rattle.session_text.specs.SessionData.{list, natural, integer}
+use Rattle.session_text.proofs.Newline.{tokens_before_newline}
 
 -- the compact text is UTF-8 and has the value's tokens, and these are read as the value
 pub record IsJson (d : Data) : Type 0 where
@@ -48,16 +49,25 @@ mutual
   members_depth-outline no_members = refl
   members_depth-outline (member k d ms) = ap₂ max (depth-outline d) (members_depth-outline ms)
 
--- such a text is read as its value
-pub compact_read : (d : Data) → IsJson d → depth d ≤ max_depth → json_of (compact_text d) ≡ Some d
-compact_read d is deep =
+-- a text with the value's tokens is read as the value
+tokens_read : (d : Data) (text : List ℕ) → IsJson d → IsUtf8 text → tokens text ≡ json_tokens (outline d) → depth d ≤ max_depth → json_of text ≡ Some d
+tokens_read d text is utf8 has deep =
     let shallow = subst (λ n. n ≤ max_depth) (sym (depth-outline d)) deep in
-    let same : tokens (compact_text d) ≡ json_tokens (outline d) ++ [] =
-    ap tokens (sym (print-outline d)) ∙ tokens-print (json_tokens (outline d)) (ArePrintable-json_tokens (outline d) is.numbers) ∙ sym (append-nil _) in
-    json_of-some (compact_text d) d is.text (ap of_value (ap (json.value max_depth) same ∙ value-json_tokens (outline d) max_depth [] shallow) ∙ is.reads)
+    json_of-some text d utf8 (ap of_value (ap (json.value max_depth) (has ∙ sym (append-nil _)) ∙ value-json_tokens (outline d) max_depth [] shallow) ∙ is.reads)
   where
     of_value : Option (json.Json × List Token) → Option Data
     of_value o = option_and_then of_json (option_and_then (λ p. json.if_last p.0 p.1) o)
+
+-- the compact text is
+pub compact_read : (d : Data) → IsJson d → depth d ≤ max_depth → json_of (compact_text d) ≡ Some d
+compact_read d is deep =
+    tokens_read d (compact_text d) is is.text (ap tokens (sym (print-outline d)) ∙ tokens-print (json_tokens (outline d)) (ArePrintable-json_tokens (outline d) is.numbers)) deep
+
+-- so is that text with a newline behind it
+pub line_read : (d : Data) → IsJson d → depth d ≤ max_depth → json_of (compact_text d ++ 10 ∷ []) ≡ Some d
+line_read d is deep =
+    tokens_read d (compact_text d ++ 10 ∷ []) is (IsUtf8-append (compact_text d) (10 ∷ []) is.text (IsUtf8-are_ascii (10 ∷ []) refl))
+    (ap (λ text. tokens (text ++ 10 ∷ [])) (sym (print-outline d)) ∙ tokens_before_newline (json_tokens (outline d)) (ArePrintable-json_tokens (outline d) is.numbers)) deep
 
 pub string_json : (s : List ℕ) → IsUtf8 s → IsJson (string s)
 string_json s utf8 = record { text = IsUtf8-quoted s utf8; numbers = tt; reads = refl }

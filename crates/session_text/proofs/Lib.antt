@@ -3,6 +3,7 @@ pub mod Shallow
 pub mod ReadsBack
 pub mod SoundItems
 pub mod WholeReadsBack
+pub mod Newline
 pub mod JsonParts
 pub mod SessionJson
 pub mod PlanBack
@@ -10,3 +11,4 @@ pub mod ScriptsBack
 pub mod LimitsBack
 pub mod ScheduleBack
 pub mod SessionBack
+pub mod SessionLine

@@ -27,10 +27,10 @@ use Rattle.catalogue.specs.Sound.{IsSound, IsActor, IsWithinLimits}
 use Rattle.catalogue.specs.declared.actor.Actor.{Actor}
 use Rattle.catalogue.specs.declared.actor.Actor.TheVariants.{Client, Port, Stage, Recover}
 use Rattle.catalogue.specs.ActorWord.{actor_word}
-use Rattle.session_text.specs.Canonical.{canonical}
+use Rattle.session_text.specs.Canonical.{canonical, text_line}
 use Rattle.session_text.specs.SessionData.{natural, integer, which_name, need_data, needs_data, act_data, op_data, item_data, client_data, clients_data, layout_row_data, tuple_row_data, shape_data, more_words, schedule_text, data_of}
 use Rattle.session_text.specs.Typed.{IsTypedTuple, IsTypedNeed, act_numbers, IsTypedOp, IsTypedItem, IsTypedLayoutRow, IsTypedRow, IsTypedShape, IsTyped}
-use Rattle.session_text.proofs.JsonParts.{IsJson, string_json, natural_json, integer_json, list_json, map_json, object_json, compact_read}
+use Rattle.session_text.proofs.JsonParts.{IsJson, string_json, natural_json, integer_json, list_json, map_json, object_json, compact_read, line_read}
 use Rattle.session_text.proofs.Shallow.{session_deep}
 
 tuple_json : (t : TupleId) → IsTypedTuple t → IsJson (natural t.0)
@@ -160,3 +160,7 @@ session_json plan sound typed =
 pub canonical_read : (plan : Plan) → IsSound plan → IsTyped plan → json_of (canonical plan) ≡ Some (data_of plan)
 unfolding canonical
 canonical_read plan sound typed = compact_read (data_of plan) (session_json plan sound typed) (session_deep plan)
+
+pub text_line_read : (plan : Plan) → IsSound plan → IsTyped plan → json_of (text_line plan) ≡ Some (data_of plan)
+unfolding canonical
+text_line_read plan sound typed = line_read (data_of plan) (session_json plan sound typed) (session_deep plan)

@@ -9,7 +9,7 @@ mod laws;
 mod section;
 mod write;
 
-pub use laws::{sessions_read_back, texts_read_back, values_read_back};
+pub use laws::{lines_read_back, sessions_read_back, texts_read_back, values_read_back};
 pub use session_reader::{Limit, OpAt, Section, SessionFault, read_session};
 pub use write::write_session;
 

@@ -15,4 +15,4 @@ returns-in-Err-clause-log_cause g c =
 pub returns-clause-ran : goal.returns-clause-ran
 returns-clause-ran g c listed these =
     driven_ran (λ r. seen (g.L.LogRack.told r) (g.L.LogRack.keeps r) (g.L.LogRack.faults r)) listed (plan_of c.args.session) c.args.rack c.in-Ok.world c.run-end.new.self c.args.actors.now c.run-end.result c.close.result.1 g.N.RunName.kept g.N.RunName.faults
-    c.in-Ok.ensures.begun c.run-end.ensures these c.in-Ok.ensures.beyond c.trace.ensures.run c.close.ensures.rack c.requires.kept c.requires.faults c.close.ensures.keeps c.close.ensures.stopped c.close.result.0 _ _ c.close.ensures.closed
+    c.in-Ok.ensures.begun c.run-end.ensures these c.in-Ok.ensures.beyond c.trace.ensures.run c.close.ensures.rack c.requires.kept c.requires.faults c.close.ensures.keeps c.close.ensures.stopped c.args.output c.close.result.0 _ _ c.close.ensures.closed
