@@ -8,7 +8,6 @@ use Rattle.json.proofs.Printed.Strings.{content-escape, lex-escape}
 use Rattle.json.proofs.Printed.Numbers.{lex-number, in_word-ended}
 use Rattle.json.proofs.Printed.Tokens.{tokens-print}
 
-
 abbrev lexemes_of : Token → List Lexeme
 lexemes_of begin_object = token begin_object ∷ []
 lexemes_of end_object = token end_object ∷ []
