@@ -18,7 +18,7 @@ use Rattle.warm_split.specs.Parts.{IsParts}
 use Rattle.warm_split.specs.Resolved.{packet_of}
 use Rattle.warm_split.specs.Sides.{HasPlaces, IsOneVisit, found_values, hot_ops}
 use Rattle.log_records.specs.Records.{PlainRecords}
-use Rattle.catalogue.specs.Plan.{Plan, PlainItem, Run}
+use Rattle.catalogue.specs.Plan.{Plan, PlainItem, Run, items_of}
 use Rattle.catalogue.specs.declared.actor.Actor.TheVariants.{Client}
 use Rattle.core_model.specs.declared.phase.Phase.TheVariants.{Ready, Locking, Logged}
 use Rattle.core_model.specs.Decision.{greatest}
@@ -58,7 +58,7 @@ use Rattle.fabric_core.specs.declared.turn.Turn.{Turn}
 use Rattle.fabric_core.proofs.Held.{locks_logged}
 use Rattle.fabric_core.proofs.HotPlaces.{has_places, some_hot_op}
 use Rattle.fabric_core.proofs.LogTexts.{IsAppend, appended_turn, failed_turn, text_with_intent}
-use Rattle.fabric_core.proofs.Logs.{logs_set}
+use Rattle.fabric_core.proofs.Logs.{logs_set, room_for_all}
 use Rattle.fabric_core.proofs.NextActions.{MayAsk, log_is}
 use Rattle.fabric_core.proofs.Present as present
 
@@ -226,6 +226,7 @@ module _ {plan : Plan} {core : CoreState} {c at : ℕ} {item : PlainItem} {s : S
       length_push (log_at s c).intents (intent_now plan c x),
       ap length is_log.intents,
       is_log.space,
+      room_for_all plan.layout script (length (items_of plan c)) hot,
     )
 
     pub logs_next : (new : PlainRecords) (intent : PlainIntent) → intent ≡ intent_now plan c x → new ≡ record log { intents = log.intents ++ intent ∷ [] } → IsLog plan c (with_intent (intent_now plan c x) (log_at s c)) new

@@ -41,3 +41,4 @@ pub mod CellPlaces
 pub mod PlaceRows
 pub mod ReadableLogs
 pub mod Rebuilding
+pub mod Unused

@@ -1,11 +1,25 @@
 -- The clients' logs as they are kept, and what there is behind a move of one of them.
-use Rattle.std.proofs.Common.{◌≡◌, ℕ, ◌-◌, ◌<◌, List, [], ◌∷◌, ◌++◌, length, length-set, get_or, set, slice_get, Some, inl, inr, refl, sym, ap, subst, ◌∙◌, arith}
+use Rattle.std.proofs.Common.{◌≡◌, true, false, ℕ, ◌-◌, ◌<◌, List, [], ◌∷◌, ◌++◌, length, length-set, get_or, set, slice_get, Some, inl, inr, refl, sym, ap, subst, ◌∙◌, arith}
+use Rattle.std.specs.List.{list_any}
 use Rattle.std.proofs.lemmas.List.{get_or-set_same, get_or-set_other, length_push}
+use Rattle.txn_model.specs.declared.op.Op.{Op}
+use Rattle.stage_layout.specs.Late.{is_hot}
+use Rattle.stage_layout.specs.declared.layout.LayoutRow.{LayoutRow}
 use Rattle.log_records.specs.Records.{PlainRecords}
 use Rattle.catalogue.specs.Plan.{Plan}
 use Rattle.core_model.proofs.Fewer.{same_or_not}
 use Rattle.fabric_model.specs.State.{Records, no_records}
-use Rattle.fabric_core.specs.Standing.{AreLogs, IsLog}
+use Rattle.fabric_core.specs.Standing.{AreLogs, IsLog, log_room}
+
+-- nothing is in a switch without tuples
+pub none_hot : (ops : List Op) → list_any (λ op. is_hot [] op.tuple) ops ≡ false
+none_hot [] = refl
+none_hot (op ∷ ops) = none_hot ops
+
+-- where an operation is in the switch, there is room for a record of each item
+pub room_for_all : (rows : List LayoutRow) (ops : List Op) (items : ℕ) → list_any (λ op. is_hot rows op.tuple) ops ≡ true → log_room rows items ≡ items
+room_for_all [] ops items hot = let clash : false ≡ true = sym (none_hot ops) ∙ hot in cc
+room_for_all (row ∷ rows) ops items hot = refl
 
 -- another log at a place
 pub logs_set : (plan : Plan) (logs : List Records) (kept : List PlainRecords) (c : ℕ) (y : Records) (new : PlainRecords) → c < length logs → AreLogs plan logs kept → IsLog plan c y new → AreLogs plan (set logs c y) (set kept c new)

@@ -1,5 +1,5 @@
 -- What is kept at the opening.
-use Rattle.std.proofs.Common.{◌≡◌, ℕ, ◌+◌, ◌<◌, ◌==◌, ◌||◌, ◌&&◌, not, ℤ, T, Bool, true, false, cond, List, [], ◌∷◌, ◌++◌, map, length, get_or, Option, Some, None, IsTrue, is_some, option_map, inl, inr, refl, sym, ap, subst, ◌∙◌, arith}
+use Rattle.std.proofs.Common.{◌≡◌, ℕ, ◌+◌, ◌<◌, ◌==◌, ◌||◌, ◌&&◌, not, ℤ, T, Bool, true, false, cond, List, [], ◌∷◌, ◌++◌, map, filter, length, get_or, Option, Some, None, IsTrue, is_some, option_map, inl, inr, refl, sym, ap, subst, ◌∙◌, arith}
 use Rattle.std.specs.Cmp.{unsigned_tied}
 use Rattle.std.specs.FinMap as fin
 use Rattle.std.specs.FinMap.Entries as rows
@@ -12,6 +12,7 @@ use Rattle.txn_model.specs.Tuples.{Tuples, tuple_cmp}
 use Rattle.txn_model.specs.declared.op.TupleId.{TupleId}
 use Rattle.txn_model.proofs.TupleOrder.{tuple_cmp_total, tuple_cmp_exact}
 use Rattle.stage_layout.specs.Late.{is_hot}
+use Rattle.stage_layout.specs.declared.layout.LayoutRow.{LayoutRow}
 use Rattle.host_store.specs.Store.{Store, first_seen}
 use Rattle.catalogue.specs.Plan.{Plan, items_of}
 use Rattle.catalogue.specs.Sound.{IsSound}
@@ -70,11 +71,23 @@ host_tuples plan t ids sound is =
     ∙ stored_same plan (opening plan) (opening_is_reached plan sound) t
 
 -- the store that has the first value of each of them is the model's
-pub first_store : (plan : Plan) (found : List (TupleId × ℤ)) (hosts : Tuples) (store : Store) → found ≡ host_rows plan → hosts ≡ fin.from_sorted found → ((t : TupleId) → fin.get store t ≡ option_map first_seen (fin.get hosts t)) → store ≡ (opening plan).store
-first_store plan found hosts store listed same is =
+pub first_store : (plan : Plan) (hosts : Tuples) (store : Store) → fin.entries hosts ≡ host_rows plan → ((t : TupleId) → fin.get store t ≡ option_map first_seen (fin.get hosts t)) → store ≡ (opening plan).store
+first_store plan hosts store same is =
     fin.same_map tuple_cmp_total tuple_cmp_exact store (first_rows (host_rows plan))
-    (λ t. is t ∙ ap (λ (m : Tuples). option_map first_seen (fin.get m t)) (same ∙ ap fin.from_sorted listed) ∙ ap (option_map first_seen) (fin.get-from_sorted tuple_cmp (host_rows plan) t (ascend plan)) ∙ sym (first_value (host_rows plan) t))
+    (λ t. is t ∙ ap (option_map first_seen) (fin.get-entries hosts t ∙ ap (rows.find tuple_cmp t) same) ∙ sym (first_value (host_rows plan) t))
     ∙ sym (opening_store plan)
+
+-- the map of these rows has them as its entries
+pub entries_of_hosts : (plan : Plan) (found : List (TupleId × ℤ)) (hosts : Tuples) → found ≡ host_rows plan → hosts ≡ fin.from_sorted found → fin.entries hosts ≡ host_rows plan
+entries_of_hosts plan found hosts listed is = ap fin.entries (is ∙ ap fin.from_sorted listed) ∙ fin.entries-from_sorted tuple_cmp (host_rows plan) (ascend plan)
+
+on_hosts : (values : List (TupleId × ℤ)) → values ≡ filter (λ row. not (is_hot [] row.0)) values
+on_hosts [] = refl
+on_hosts (row ∷ values) = ap (λ (l : List (TupleId × ℤ)). row ∷ l) (on_hosts values)
+
+-- where no tuple is in the switch, the hosts have all of them
+pub all_on_hosts : (plan : Plan) → plan.layout ≡ [] → fin.entries plan.tuples ≡ host_rows plan
+all_on_hosts plan none = on_hosts (fin.entries plan.tuples) ∙ ap (λ (l : List LayoutRow). filter (λ row. not (is_hot l row.0)) (fin.entries plan.tuples)) (sym none)
 
 -- a client of the model at the opening
 pub begun : (plan : Plan) (c : ℕ) → c < length plan.clients → client_in (first_clients plan.clients) c ≡ at_item (length (items_of plan c)) 1 zero_stamp

@@ -73,7 +73,7 @@ use Rattle.fabric_core.specs.declared.turn.Turn.TheVariants as turns
 use Rattle.fabric_core.proofs.Held.{locks_taken}
 use Rattle.fabric_core.proofs.HotPlaces.{some_hot_op}
 use Rattle.fabric_core.proofs.LogTexts.{IsAppend, appended_turn, failed_turn, text_with_outcome}
-use Rattle.fabric_core.proofs.Logs.{logs_set}
+use Rattle.fabric_core.proofs.Logs.{logs_set, room_for_all}
 use Rattle.fabric_core.proofs.NextActions.{outcome_is}
 use Rattle.fabric_core.proofs.PacketMoves.{takes_from_none, takes_move, takes_nothing}
 use Rattle.fabric_core.proofs.PartsOfScripts.{members_are}
@@ -308,6 +308,7 @@ module _ {plan : Plan} {core : CoreState} {c at : ℕ} {item : PlainItem} {s : S
           length_push (log_at s c).outcomes outcome,
           ap length is_log.outcomes,
           is_log.space,
+          room_for_all plan.layout script (length (items_of plan c)) (posts.has_hot_waiting plan s reached c waiting),
         )
 
         logs_next : (seq : ℕ) (new : PlainRecords) → seq ≡ r.state.seq → new ≡ record log { outcomes = log.outcomes ++ record { seq = seq; number = number; pairs = hot } ∷ [] } → IsLog plan c (with_outcome outcome (log_at s c)) new

@@ -35,6 +35,7 @@ use Rattle.fabric_core.specs.declared.turn.Stop.{Stop}
 use Rattle.fabric_core.specs.declared.turn.Stop.TheVariants as stops
 use Rattle.fabric_core.specs.declared.turn.Turn.{Turn}
 use Rattle.fabric_core.specs.declared.turn.Turn.TheVariants as turns
+use Rattle.fabric_core.proofs.Unused.{switch_rests}
 use Rattle.fabric_core.proofs.Worlds.{IsRun, change_still}
 
 no_moves : {R : Type 0} (run : Running R) → with_moves run [] run.rack ≡ run
@@ -229,6 +230,13 @@ taking_done rest all old now first before none is = record {
   beyond = is.beyond;
 }
 
+-- none of those that are left can move
+pub taking_resting : {R : Type 0} (rest all : List Actor) (old now : Running R) (first before : Rack) → movers now.plan (state_in now) rest ≡ [] → IsTaking rest all old now first before → IsTaken old now first before all (Ok tt)
+taking_resting rest all old now first before none is = record {
+  takes = (behind_done _ old now first before (subst (λ (l : List Actor). IsBehind l (movers old.plan (state_in old) all) old now first before) none is), is.faults);
+  beyond = is.beyond;
+}
+
 -- the next one of them
 pub taking_one : {R : Type 0} (actor : Actor) (rest more all : List Actor) (old now next : Running R) (first before after : Rack) → more ≡ actor ∷ rest → IsTaking more all old now first before → IsTaken now next before after (actor ∷ []) (Ok tt) → IsTaking rest all old next first after
 taking_one actor rest more all old now next first before after split is t = taking_next (actor ∷ []) rest more all old now next first before after split is t
@@ -261,6 +269,11 @@ ports_in plan = map Port (numbers_below (length plan.clients))
 
 abbrev pub stages_in : Plan → List Actor
 stages_in plan = map Stage (reverse (numbers_below plan.shape.stages))
+
+-- where no tuple is in the switch, the turns of the clients are the whole
+pub taking_unused : {R : Type 0} (all : List Actor) (old now : Running R) (first before : Rack) → now.plan.layout ≡ [] → IsTaking (ports_in old.plan ++ stages_in old.plan) all old now first before → IsTaken old now first before all (Ok tt)
+taking_unused all old now first before none is =
+    taking_resting _ all old now first before (switch_rests now.plan none (state_in now) is.run.reached (numbers_below (length old.plan.clients)) (reverse (numbers_below old.plan.shape.stages))) is
 
 -- the stages are the last
 pub rota_whole : {R : Type 0} (all : List Actor) (old now next : Running R) (first before after : Rack) → IsTaking (stages_in old.plan) all old now first before → (result : Result (Unit {0}) Halt) → IsTaken now next before after (stages_in now.plan) result

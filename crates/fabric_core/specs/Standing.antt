@@ -1,8 +1,9 @@
 -- When what the code keeps of a run stands for a state of the model.
-use Rattle.std.specs.Prelude.{◌≡◌, ◌<◌, ◌≤◌, ◌+◌, ◌*◌, ◌&&◌, ℕ, Bool, List, length, not, true, false, is_some, slice_index_or, Option, Some, None}
+use Rattle.std.specs.Prelude.{◌≡◌, ◌<◌, ◌≤◌, ◌+◌, ◌*◌, ◌&&◌, ℕ, Bool, List, [], ◌∷◌, length, not, true, false, is_some, slice_index_or, Option, Some, None}
 use Rattle.std.specs.FinMap as fin
 use Rattle.txn_model.specs.declared.op.TupleId.{TupleId}
 use Rattle.stage_layout.specs.Late.{is_hot}
+use Rattle.stage_layout.specs.declared.layout.LayoutRow.{LayoutRow}
 use Rattle.warm_split.specs.Parts.{IsParts}
 use Rattle.catalogue.specs.Plan.{Plan, PlainItem, item_of, items_of}
 use Rattle.catalogue.specs.Sound.{IsActor, item_count}
@@ -41,11 +42,17 @@ pub record AreRunners (plan : Plan) (clients : List ClientState) (runners : List
   pub count : length runners ≡ length clients
   pub each : (c : ℕ) (other : Runner) → c < length clients → IsRunner plan c (client_in clients c) (slice_index_or runners c other)
 
--- the log of a client has these records, and room for one of each kind for each of its items
+-- how many records of each kind a client with so many items makes at most: one for each of them, and none where no tuple is in
+-- the switch
+abbrev pub log_room : List LayoutRow → ℕ → ℕ
+log_room [] items = 0
+log_room (row ∷ rows) items = items
+
+-- the log of a client has these records, and room for all that it makes
 pub record IsLog (plan : Plan) (c : ℕ) (records : Records) (log : PlainRecords) : Type 0 where
   pub intents : log.intents ≡ records.intents
   pub outcomes : log.outcomes ≡ records.outcomes
-  pub space : log.room ≡ length (items_of plan c)
+  pub space : log.room ≡ log_room plan.layout (length (items_of plan c))
 
 -- each client has its log, in order
 pub record AreLogs (plan : Plan) (logs : List Records) (kept : List PlainRecords) : Type 0 where

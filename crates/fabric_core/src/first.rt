@@ -1,12 +1,13 @@
 //! What is there before the first move.
 
 ghost use Rattle.std.specs.Prelude.{◌≡◌, ◌≤◌, length, map, IfOk};
+ghost use Rattle.std.specs.FinMap.{entries};
 ghost use Rattle.catalogue.specs.PlanOf.{plan_of};
 ghost use Rattle.catalogue.specs.Sound.{IsSound};
 ghost use Rattle.core_model.specs.Run.{first_clients};
 ghost use Rattle.fabric_model.specs.Run.{host_rows, opening};
 ghost use Rattle.fabric_model.specs.State.{no_records};
-ghost use Rattle.fabric_core.specs.Standing.{AreLogs, AreRunners, StandsFor};
+ghost use Rattle.fabric_core.specs.Standing.{AreLogs, AreRunners, StandsFor, log_room};
 
 use crate::core_state::CoreState;
 use crate::draft::Draft;
@@ -27,8 +28,21 @@ impl CoreState {
         requires { IsSound (plan_of session.now) }
         ensures { IfOk result (λ core. StandsFor (plan_of session.now) (opening (plan_of session.now)) core) }
     {
+        if session.layout.as_slice().is_empty() {
+            return CoreState::with_hosts(alloc, session, &session.tuples);
+        }
         let rows = host_rows(alloc, session)?;
-        let ids = tuple_ids(alloc, rows.as_slice())?;
+        let hosts = TupleMap::of(alloc, rows.as_slice())?;
+        CoreState::with_hosts(alloc, session, &hosts)
+    }
+
+    /// That, where the hosts have these tuples.
+    fn with_hosts(alloc: Global, session: &Session, hosts: &TupleMap) -> Result<CoreState, NoMemory>
+        requires sound { IsSound (plan_of session.now) }
+        requires hosts { entries hosts.now ≡ host_rows (plan_of session.now) }
+        ensures { IfOk result (λ core. StandsFor (plan_of session.now) (opening (plan_of session.now)) core) }
+    {
+        let ids = tuple_ids(alloc, hosts.rows())?;
         let most = usize::from(session.tries) * item_count(session);
         Ok(CoreState {
             runners: first_runners(alloc, session)?,
@@ -42,7 +56,7 @@ impl CoreState {
                 session.clients(),
             )?,
             locks: LockTable::fresh(alloc, ids.as_slice())?,
-            store: HostStore::fresh(alloc, &TupleMap::of(alloc, rows.as_slice())?)?,
+            store: HostStore::fresh(alloc, hosts)?,
             history: History::for_session(alloc, session)?,
             refusals: Items::of(Vec::with_capacity(alloc, most)?),
             draft: Draft::fresh(alloc)?,
@@ -63,7 +77,7 @@ fn first_runners(alloc: Global, session: &Session) -> Result<Vec<Runner>, NoMemo
     Ok(runners)
 }
 
-/// A log for each client, with room for one record of each kind for each of its items.
+/// A log for each client, with room for all records that it makes.
 fn first_logs(alloc: Global, session: &Session) -> Result<Vec<ClientLog>, NoMemory>
     requires { IsSound (plan_of session.now) }
     ensures { IfOk result (λ logs. AreLogs (plan_of session.now) (map (λ items. no_records) (plan_of session.now).clients) logs.items) }
@@ -71,9 +85,22 @@ fn first_logs(alloc: Global, session: &Session) -> Result<Vec<ClientLog>, NoMemo
     let clients = session.clients();
     let mut logs = Vec::with_capacity(alloc, usize::from(clients))?;
     for client in 0..clients {
-        logs.push(ClientLog::fresh(alloc, session.items(client) as usize)?)?;
+        let room = log_room(session, session.items(client) as usize);
+        logs.push(ClientLog::fresh(alloc, room)?)?;
     }
     Ok(logs)
+}
+
+/// How many records of each kind a client with so many items makes at most. Where no tuple is in the
+/// switch it makes none.
+fn log_room(session: &Session, items: usize) -> usize
+    ensures { result ≡ log_room (plan_of session.now).layout items }
+{
+    if session.layout.as_slice().is_empty() {
+        0
+    } else {
+        items
+    }
 }
 
 /// The tuples of hosts with their first values, in order.

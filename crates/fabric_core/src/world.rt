@@ -186,6 +186,10 @@ impl<L: LogRack, N: RunName> World<L, N> {
         let _ = &self.session;
         self.take(alloc, Actor::Recover)?;
         self.take_clients(alloc)?;
+        if self.session.layout.as_slice().is_empty() {
+            // No tuple is in the switch, so no packet is ever at a port or in a stage.
+            return Ok(());
+        }
         self.take_ports(alloc)?;
         self.take_stages(alloc)
     }

@@ -1,41 +1,14 @@
-use Rattle.std.proofs.Common.{ℕ, ◌*◌, length, refl, sym, ap, subst, ◌∙◌, arith}
-use Rattle.switch_model.specs.Switch.{fresh_switch}
-use Rattle.pipeline.specs.Plain.{PlainPipeline}
-use Rattle.pipeline.specs.Rows.{fresh_pipeline}
-use Rattle.pipeline.specs.Shows.{Shows}
-use Rattle.pipeline.proofs.Events.{fresh_shown}
-use Rattle.history_core.specs.Recorded.{Recorded}
-use Rattle.catalogue.specs.Plan.{hot_cells}
+use Rattle.std.proofs.Common.{sym, ◌∙◌}
 use Rattle.catalogue.specs.PlanOf.{plan_of}
-use Rattle.catalogue.specs.Sound.{item_count}
-use Rattle.fabric_model.specs.Run.{opening}
-use Rattle.fabric_core.proofs.Held.{locks_at_opening}
-use Rattle.fabric_core.proofs.Openings.{host_tuples, first_store, ascend_as, fst_as}
-use Rattle.fabric_core.proofs.Switches.{is_switch}
+use Rattle.gap_placement.proofs.Seeking.{is_nothing}
+use Rattle.fabric_core.proofs.Openings.{ascend_as, all_on_hosts, entries_of_hosts}
 use Rattle.fabric_core.proofs.core_state.CoreState.opening.Goals as goal
 
-pub of-requires : goal.of-requires
-of-requires c = record { ascending = ascend_as (plan_of c.args.session.now) c.as_slice-3.result.now (c.as_slice-3.ensures.value ∙ c.in_ok-rows.ensures) }
+pub with_hosts-requires-clause-hosts : goal.with_hosts-requires-clause-hosts
+with_hosts-requires-clause-hosts c = all_on_hosts (plan_of c.args.session.now) (sym c.as_slice.ensures.rows ∙ is_nothing c.as_slice.result.now (sym c.is_empty.ensures ∙ c.if-is_empty.true))
 
-pub returns : goal.returns
-unfolding opening
-returns c =
-    let plan = plan_of c.args.session.now in
-    record {
-      runners = c.in_ok-first_runners.ensures;
-      logs = c.in_ok-first_logs.ensures;
-      switch = is_switch refl (record {
-        now = fresh_switch (hot_cells plan) (length plan.clients);
-        up = refl;
-        shows = subst (λ (seen : PlainPipeline). Shows plan.shape seen (fresh_switch (hot_cells plan) (length plan.clients)))
-            (sym (c.in_ok-fresh.ensures ∙ ap (λ (n : ℕ). fresh_pipeline plan.shape (hot_cells plan) n) c.clients.ensures.value)) (fresh_shown plan.shape (hot_cells plan) (length plan.clients));
-      });
-      locks = locks_at_opening plan c.in_ok-fresh-2.field-0 c.in_ok-fresh-2.ensures.free;
-      tuples = λ t. c.in_ok-fresh-2.ensures.tuples t ∙ host_tuples plan t c.as_slice-2.result.now c.requires (c.as_slice-2.ensures.value ∙ c.in_ok-ids.ensures ∙ fst_as plan c.as_slice.result.now (c.as_slice.ensures.value ∙ c.in_ok-rows.ensures));
-      store = first_store plan c.as_slice-3.result.now c.in_ok-of.field-0 c.in_ok-fresh-3.field-0 (c.as_slice-3.ensures.value ∙ c.in_ok-rows.ensures) c.in_ok-of.ensures c.in_ok-fresh-3.ensures;
-      history = ap (λ (h : Recorded). h.items) c.in_ok-for_session.ensures;
-      runs = ap (λ (h : Recorded). h.runs) c.in_ok-for_session.ensures;
-      refusals = c.of-2.ensures.items ∙ c.in_ok-with_capacity.ensures.items;
-      refused = omega (arith, c.of-2.ensures.spare, c.in_ok-with_capacity.ensures.capacity, c.in_ok-with_capacity.ensures.len, ap (λ (n : ℕ). n * item_count plan) c.from.ensures, ap (λ (n : ℕ). c.from.result * n) c.item_count.ensures);
-      draft = c.in_ok-fresh-4.ensures;
-    }
+pub of-requires : goal.of-requires
+of-requires c = record { ascending = ascend_as (plan_of c.args.session.now) c.as_slice-2.result.now (c.as_slice-2.ensures.value ∙ c.in_ok-rows.ensures) }
+
+pub with_hosts-requires-2-clause-hosts : goal.with_hosts-requires-2-clause-hosts
+with_hosts-requires-2-clause-hosts c = entries_of_hosts (plan_of c.args.session.now) c.as_slice-2.result.now c.in_ok-hosts.hosts (c.as_slice-2.ensures.value ∙ c.in_ok-rows.ensures) c.in_ok-hosts.ensures
