@@ -1,5 +1,7 @@
 -- The numbers of operations on hosts, one operation after another.
-use Rattle.std.proofs.Common.{◌≡◌, ℕ, zero, suc, ◌+◌, ◌<◌, ◌≤◌, Bool, true, false, List, [], ◌∷◌, drop, get_or, length, if◌then◌else◌, sym, ap, ◌∙◌, arith, drop_of_length-le}
+use Rattle.std.proofs.Common.{◌≡◌, ℕ, zero, suc, ◌+◌, ◌<◌, ◌≤◌, Bool, true, false, List, [], ◌∷◌, drop, get_or, length, if◌then◌else◌, sym, ap, ◌∙◌, arith, drop_of_length-le, refl, ◌==◌}
+use Rattle.std.specs.Int.{bit_at}
+use Rattle.std.proofs.lemmas.Nat.Bits.{bit_at-zero}
 use Rattle.std.proofs.lemmas.Option.{slice_get-get_or}
 use Rattle.txn_model.specs.declared.op.Op.{Op}
 use Rattle.txn_model.proofs.OperandLaws.{drop_at_item}
@@ -77,3 +79,20 @@ within-numbers hot k (op ∷ ops) j lt = by (contains hot k) (numbers_from hot (
     by true rest less i h = omega (arith, less i h)
     by false rest less zero h = omega arith
     by false rest less (suc i) h = omega (arith, less i (omega (arith, h)))
+
+-- where the set is empty each operation is on a host
+none-contained : (hot : OpSet) (k : ℕ) → hot.0 ≡ 0 → contains hot k ≡ false
+none-contained hot k e = ap (λ (m : ℕ). bit_at m k == 1) e ∙ ap (λ (b : ℕ). b == 1) (bit_at-zero k)
+
+kept-all : (hot : OpSet) (k : ℕ) (op : Op) (ops : List Op) → hot.0 ≡ 0 → numbers_from hot k (op ∷ ops) ≡ k ∷ numbers_from hot (k + 1) ops
+kept-all hot k op ops e = ap (λ (b : Bool). if b then numbers_from hot (k + 1) ops else k ∷ numbers_from hot (k + 1) ops) (none-contained hot k e)
+
+pub count-all : (hot : OpSet) (k : ℕ) (ops : List Op) → hot.0 ≡ 0 → length (numbers_from hot k ops) ≡ length ops
+count-all hot k [] e = refl
+count-all hot k (op ∷ ops) e = ap length (kept-all hot k op ops e) ∙ ap suc (count-all hot (k + 1) ops e)
+
+pub number-all : (hot : OpSet) (k : ℕ) (ops : List Op) (j : ℕ) → hot.0 ≡ 0 → j < length ops → get_or (numbers_from hot k ops) j 0 ≡ k + j
+number-all hot k [] j e lt = absurd (omega arith)
+number-all hot k (op ∷ ops) zero e lt = ap (λ (l : List ℕ). get_or l 0 0) (kept-all hot k op ops e) ∙ omega arith
+number-all hot k (op ∷ ops) (suc j) e lt =
+    ap (λ (l : List ℕ). get_or l (suc j) 0) (kept-all hot k op ops e) ∙ number-all hot (k + 1) ops j e (omega (arith, lt)) ∙ omega arith

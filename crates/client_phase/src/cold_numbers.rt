@@ -13,6 +13,9 @@ pub(crate) fn cold_count(script: &Script, parts: &Parts) -> u8
     ensures value { result ≡ cold_count parts.now script.now.items }
     ensures bound { result ≤ 16 }
 {
+    if parts.hot.is_empty() {
+        return script.len() as u8;
+    }
     let mut count = 0;
     for op in 0..script.len() as u8 {
         if !parts.hot.has(op) {
@@ -29,6 +32,9 @@ pub(crate) fn cold_number(script: &Script, parts: &Parts, nth: u8) -> u8
     ensures value { result ≡ cold_number parts.now script.now.items nth }
     ensures bound { result < length script.now.items }
 {
+    if parts.hot.is_empty() {
+        return nth;
+    }
     let mut left = nth;
     for op in 0..script.len() as u8 {
         if !parts.hot.has(op) {

@@ -1,9 +1,19 @@
-use Rattle.std.proofs.Common.{sym, ◌∙◌, arith}
+use Rattle.std.proofs.Common.{refl, sym, ◌∙◌, arith}
 use Rattle.txn_model.proofs.SerialLaws.{sound_length}
 use Rattle.client_phase.specs.ColdNumbers.{cold_count}
-use Rattle.client_phase.proofs.Numbers.{count-next, count-skip, few-numbers}
+use Rattle.client_phase.proofs.Numbers.{count-next, count-skip, few-numbers, count-all}
 use Rattle.client_phase.proofs.cold_numbers.cold_count.Goals.{then-not-has, else-not-has}
 use Rattle.client_phase.proofs.cold_numbers.cold_count.Goals as goal
+
+pub overflow_cast-result : goal.overflow_cast-result
+overflow_cast-result c = omega (arith, c.len.ensures, sound_length _ c.requires.fit)
+
+pub returns-then-is_empty-clause-value : goal.returns-then-is_empty-clause-value
+returns-then-is_empty-clause-value c =
+    c.len.ensures ∙ sym (count-all c.args.parts.now.hot 0 c.args.script.now.items (c.if-is_empty.ensures.0 refl))
+
+pub returns-then-is_empty-clause-bound : goal.returns-then-is_empty-clause-bound
+returns-then-is_empty-clause-bound c = omega (arith, c.len.ensures, sound_length _ c.requires.fit)
 
 pub overflow_cast-op-end : goal.overflow_cast-op-end
 overflow_cast-op-end c = omega (arith, c.len-op-end.ensures, sound_length _ c.requires.fit)

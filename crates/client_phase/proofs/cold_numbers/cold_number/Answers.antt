@@ -1,9 +1,20 @@
 use Rattle.std.proofs.Common.{refl, sym, ap, ◌∙◌, length, arith}
 use Rattle.txn_model.proofs.SerialLaws.{sound_length}
 use Rattle.client_phase.specs.ColdNumbers.{cold_number}
-use Rattle.client_phase.proofs.Numbers.{seek-skip, seek-next, seek-here, rest-none}
+use Rattle.client_phase.proofs.Numbers.{seek-skip, seek-next, seek-here, rest-none, count-all, number-all}
 use Rattle.client_phase.proofs.cold_numbers.cold_number.Goals.{then-not-has+else-left-eq0, else-not-has}
 use Rattle.client_phase.proofs.cold_numbers.cold_number.Goals as goal
+
+pub returns-then-is_empty-clause-value : goal.returns-then-is_empty-clause-value
+returns-then-is_empty-clause-value c =
+    let hot = c.args.parts.now.hot in
+    let ops = c.args.script.now.items in
+    let empty = c.if-is_empty.ensures.0 refl in
+    sym (number-all hot 0 ops c.args.nth empty (omega (arith, c.requires.there, count-all hot 0 ops empty)) ∙ omega arith)
+
+pub returns-then-is_empty-clause-bound : goal.returns-then-is_empty-clause-bound
+returns-then-is_empty-clause-bound c =
+    omega (arith, c.requires.there, count-all c.args.parts.now.hot 0 c.args.script.now.items (c.if-is_empty.ensures.0 refl))
 
 pub overflow_cast-op-end : goal.overflow_cast-op-end
 overflow_cast-op-end c = omega (arith, c.len-op-end.ensures, sound_length _ c.requires.fit)
