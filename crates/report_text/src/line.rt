@@ -1,6 +1,6 @@
 //! The other lines of a report: of entries, of tuples, of the schedule, and those that count lines.
 
-ghost use Rattle.std.specs.Prelude.{◌≡◌, ◌++◌, OnOk, string_bytes, codes};
+ghost use Rattle.std.specs.Prelude.{◌≡◌, ◌<◌, ◌++◌, ◌∷◌, OnOk, string_bytes, codes, decimal};
 ghost use Rattle.catalogue.specs.ActorWord.{actor_word};
 ghost use Rattle.report_text.specs.Lines.{count_line, entry_line, tuple_line, schedule_line};
 
@@ -64,10 +64,27 @@ fn push_actor(text: &mut String, actor: Actor) -> Result<(), NoMemory>
         ≡ string_bytes text.old ++ (codes " " ++ actor_word actor)) }
 {
     match actor {
-        Actor::Client(client) => write!(text, " c{client}")?,
-        Actor::Port(client) => write!(text, " p{client}")?,
-        Actor::Stage(stage) => write!(text, " s{stage}")?,
+        Actor::Client(client) => push_numbered(text, 'c', client)?,
+        Actor::Port(client) => push_numbered(text, 'p', client)?,
+        Actor::Stage(stage) => push_numbered(text, 's', stage)?,
         Actor::Recover => text.push_str(" r")?,
+    }
+    Ok(())
+}
+
+/// Appends a space, the letter and the number. A trace has such a word for each move, so that a number of
+/// one digit is not formatted.
+fn push_numbered(text: &mut String, letter: char, number: u8) -> Result<(), NoMemory>
+    requires ascii { letter < 128 }
+    ensures { OnOk result (string_bytes text.new
+        ≡ string_bytes text.old ++ (codes " " ++ letter ∷ decimal number)) }
+{
+    text.push(' ')?;
+    text.push(letter)?;
+    if number < 10 {
+        text.push(char::from(b'0' + number))?;
+    } else {
+        write!(text, "{number}")?;
     }
     Ok(())
 }
