@@ -1,4 +1,6 @@
 pub mod Loops
+pub mod Escapes
+pub mod Joined
 pub mod Shallow
 pub mod ReadsBack
 pub mod SoundItems

@@ -29,7 +29,7 @@ use Rattle.catalogue.specs.declared.actor.Actor.TheVariants.{Client, Port, Stage
 use Rattle.catalogue.specs.ActorWord.{actor_word}
 use Rattle.session_text.specs.Canonical.{canonical, text_line}
 use Rattle.session_text.specs.SessionData.{natural, integer, which_name, need_data, needs_data, act_data, op_data, item_data, client_data, clients_data, layout_row_data, tuple_row_data, shape_data, more_words, schedule_text, data_of}
-use Rattle.session_text.specs.Typed.{IsTypedTuple, IsTypedNeed, act_numbers, IsTypedOp, IsTypedItem, IsTypedLayoutRow, IsTypedRow, IsTypedShape, IsTyped}
+use Rattle.session_text.specs.Typed.{IsTypedTuple, IsTypedNeed, act_numbers, IsTypedOp, IsTypedItem, IsTypedLayoutRow, IsTypedRow, IsTypedShape, IsTypedActor, IsTyped}
 use Rattle.session_text.proofs.JsonParts.{IsJson, string_json, natural_json, integer_json, list_json, map_json, object_json, compact_read, line_read}
 use Rattle.session_text.proofs.Shallow.{session_deep}
 
@@ -87,22 +87,32 @@ row_json row typed =
 tuple_row_json : (row : TupleId × ℤ) → IsTypedRow row → IsJson (tuple_row_data row)
 tuple_row_json row typed = list_json (natural row.0.0 ∷ integer row.1 ∷ []) (tuple_json row.0 typed.0, (integer_json row.1 typed.1, tt))
 
-word_utf8 : (plan : Plan) (actor : Actor) → IsWithinLimits plan → IsActor plan actor → IsUtf8 (actor_word actor)
-word_utf8 plan (Client c) limits is = IsUtf8-append (99 ∷ []) (decimal c) (IsUtf8-are_ascii (99 ∷ []) refl) (IsUtf8-from_ascii _ (IsAscii-decimal c (omega (arith, limits.clients, is))))
-word_utf8 plan (Port c) limits is = IsUtf8-append (112 ∷ []) (decimal c) (IsUtf8-are_ascii (112 ∷ []) refl) (IsUtf8-from_ascii _ (IsAscii-decimal c (omega (arith, limits.clients, is))))
-word_utf8 plan (Stage s) limits is =
-    IsUtf8-append (115 ∷ []) (decimal s) (IsUtf8-are_ascii (115 ∷ []) refl) (IsUtf8-from_ascii _ (IsAscii-decimal s (omega (arith, limits.shape.stages, is))))
-word_utf8 plan Recover limits is = IsUtf8-are_ascii (114 ∷ []) refl
+word_utf8 : (actor : Actor) → IsTypedActor actor → IsUtf8 (actor_word actor)
+word_utf8 (Client c) typed = IsUtf8-append (99 ∷ []) (decimal c) (IsUtf8-are_ascii (99 ∷ []) refl) (IsUtf8-from_ascii _ (IsAscii-decimal c (omega (arith, typed))))
+word_utf8 (Port c) typed = IsUtf8-append (112 ∷ []) (decimal c) (IsUtf8-are_ascii (112 ∷ []) refl) (IsUtf8-from_ascii _ (IsAscii-decimal c (omega (arith, typed))))
+word_utf8 (Stage s) typed = IsUtf8-append (115 ∷ []) (decimal s) (IsUtf8-are_ascii (115 ∷ []) refl) (IsUtf8-from_ascii _ (IsAscii-decimal s (omega (arith, typed))))
+word_utf8 Recover typed = IsUtf8-are_ascii (114 ∷ []) refl
 
-more_utf8 : (plan : Plan) (actors : List Actor) → IsWithinLimits plan → AllByRecursion (IsActor plan) actors → IsUtf8 (more_words actors)
-more_utf8 plan [] limits all = IsUtf8-nil
-more_utf8 plan (actor ∷ actors) limits all =
+more_utf8 : (actors : List Actor) → AllByRecursion IsTypedActor actors → IsUtf8 (more_words actors)
+more_utf8 [] all = IsUtf8-nil
+more_utf8 (actor ∷ actors) all =
     IsUtf8-append (codes " ") (actor_word actor ++ more_words actors) (IsUtf8-are_ascii (codes " ") refl)
-    (IsUtf8-append (actor_word actor) (more_words actors) (word_utf8 plan actor limits all.0) (more_utf8 plan actors limits all.1))
+    (IsUtf8-append (actor_word actor) (more_words actors) (word_utf8 actor all.0) (more_utf8 actors all.1))
 
-schedule_utf8 : (plan : Plan) (actors : List Actor) → IsWithinLimits plan → AllByRecursion (IsActor plan) actors → IsUtf8 (schedule_text actors)
-schedule_utf8 plan [] limits all = IsUtf8-nil
-schedule_utf8 plan (actor ∷ actors) limits all = IsUtf8-append (actor_word actor) (more_words actors) (word_utf8 plan actor limits all.0) (more_utf8 plan actors limits all.1)
+schedule_utf8 : (actors : List Actor) → AllByRecursion IsTypedActor actors → IsUtf8 (schedule_text actors)
+schedule_utf8 [] all = IsUtf8-nil
+schedule_utf8 (actor ∷ actors) all = IsUtf8-append (actor_word actor) (more_words actors) (word_utf8 actor all.0) (more_utf8 actors all.1)
+
+actor_typed : (plan : Plan) (actor : Actor) → IsWithinLimits plan → IsActor plan actor → IsTypedActor actor
+actor_typed plan (Client c) limits is = omega (arith, limits.clients, is)
+actor_typed plan (Port c) limits is = omega (arith, limits.clients, is)
+actor_typed plan (Stage s) limits is = omega (arith, limits.shape.stages, is)
+actor_typed plan Recover limits is = tt
+
+-- the actors of a sound session have small numbers
+actors_typed : (plan : Plan) (actors : List Actor) → IsWithinLimits plan → AllByRecursion (IsActor plan) actors → AllByRecursion IsTypedActor actors
+actors_typed plan [] limits all = tt
+actors_typed plan (actor ∷ actors) limits all = (actor_typed plan actor limits all.0, actors_typed plan actors limits all.1)
 
 shape_json : (shape : Shape) → IsTypedShape shape → IsJson (shape_data shape)
 shape_json shape typed =
@@ -126,12 +136,11 @@ shape_json shape typed =
     )
     (rw (arrays.reads, cells.reads, hosts.reads, split.reads, stages.reads) refl)
 
-session_json : (plan : Plan) → IsSound plan → IsTyped plan → IsJson (data_of plan)
-session_json plan sound typed =
+session_json : (plan : Plan) → IsTyped plan → AllByRecursion IsTypedActor plan.schedule → IsJson (data_of plan)
+session_json plan typed actors =
     let clients = clients_json plan.clients typed.clients in
     let layout = map_json layout_row_data IsTypedLayoutRow row_json plan.layout typed.layout in
-    let words = schedule_utf8 plan plan.schedule sound.limits (recursion_from_All (IsActor plan) plan.schedule sound.schedule) in
-    let schedule = string_json (schedule_text plan.schedule) words in
+    let schedule = string_json (schedule_text plan.schedule) (schedule_utf8 plan.schedule actors) in
     let shape = shape_json plan.shape typed.shape in
     let tries = byte_json plan.tries typed.tries in
     let tuples = map_json tuple_row_data IsTypedRow tuple_row_json (entries plan.tuples) typed.tuples in
@@ -156,11 +165,18 @@ session_json plan sound typed =
     )
     (rw (clients.reads, layout.reads, shape.reads, tries.reads, tuples.reads) refl)
 
--- the canonical text of a sound session is read as its value
-pub canonical_read : (plan : Plan) → IsSound plan → IsTyped plan → json_of (canonical plan) ≡ Some (data_of plan)
+-- the canonical text of a session of a program is read as its value
+pub canonical_json : (plan : Plan) → IsTyped plan → AllByRecursion IsTypedActor plan.schedule → json_of (canonical plan) ≡ Some (data_of plan)
 unfolding canonical
-canonical_read plan sound typed = compact_read (data_of plan) (session_json plan sound typed) (session_deep plan)
+canonical_json plan typed actors = compact_read (data_of plan) (session_json plan typed actors) (session_deep plan)
+
+sound_actors : (plan : Plan) → IsSound plan → AllByRecursion IsTypedActor plan.schedule
+sound_actors plan sound = actors_typed plan plan.schedule sound.limits (recursion_from_All (IsActor plan) plan.schedule sound.schedule)
+
+-- so is that of a sound one
+pub canonical_read : (plan : Plan) → IsSound plan → IsTyped plan → json_of (canonical plan) ≡ Some (data_of plan)
+canonical_read plan sound typed = canonical_json plan typed (sound_actors plan sound)
 
 pub text_line_read : (plan : Plan) → IsSound plan → IsTyped plan → json_of (text_line plan) ≡ Some (data_of plan)
 unfolding canonical
-text_line_read plan sound typed = line_read (data_of plan) (session_json plan sound typed) (session_deep plan)
+text_line_read plan sound typed = line_read (data_of plan) (session_json plan typed (sound_actors plan sound)) (session_deep plan)

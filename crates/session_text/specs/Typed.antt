@@ -12,6 +12,8 @@ use Rattle.txn_model.specs.declared.op.TupleId.{TupleId}
 use Rattle.stage_layout.specs.declared.layout.LayoutRow.{LayoutRow}
 use Rattle.stage_layout.specs.declared.shape.Shape.{Shape}
 use Rattle.catalogue.specs.Plan.{Plan, PlainItem, Run, Lose}
+use Rattle.catalogue.specs.declared.actor.Actor.{Actor}
+use Rattle.catalogue.specs.declared.actor.Actor.TheVariants.{Client, Port, Stage, Recover}
 
 -- a tuple's number has 32 bits
 abbrev pub IsTypedTuple : TupleId → Type 0
@@ -49,6 +51,13 @@ pub record IsTypedOp (op : Op) : Type 0 where
 abbrev pub IsTypedItem : PlainItem → Type 0
 IsTypedItem (Run ops) = AllByRecursion IsTypedOp ops
 IsTypedItem Lose = Unit {0}
+
+-- the number of an actor has 8 bits
+abbrev pub IsTypedActor : Actor → Type 0
+IsTypedActor (Client client) = client < 2 ^ 8
+IsTypedActor (Port client) = client < 2 ^ 8
+IsTypedActor (Stage stage) = stage < 2 ^ 8
+IsTypedActor Recover = Unit {0}
 
 -- a shape's numbers have 8 bits, but its cells 16
 pub record IsTypedShape (shape : Shape) : Type 0 where

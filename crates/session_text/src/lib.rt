@@ -6,6 +6,7 @@
 
 mod item;
 mod laws;
+mod number;
 mod section;
 mod write;
 
