@@ -1,5 +1,5 @@
 -- What a loop keeps that writes each item of a list.
-use Rattle.std.proofs.Common.{◌≡◌, ℕ, ◌+◌, List, [], ◌∷◌, ◌++◌, map, drop, slice_get, nat_lt, Some, Bool, true, false, sym, ap, ◌∙◌, subst, append_assoc, lt-ltb, arith}
+use Rattle.std.proofs.Common.{◌≡◌, ℕ, ◌+◌, List, ◌∷◌, ◌++◌, map, drop, slice_get, nat_lt, Some, Bool, true, false, sym, ap, ◌∙◌, subst, append_assoc, lt-ltb, arith}
 use Rattle.std.specs.List.{AllByRecursion}
 use Rattle.txn_model.proofs.OperandLaws.{drop_at_item}
 use Rattle.serde_json.specs.Data.{Data}
