@@ -38,9 +38,6 @@ host_rows_ascend plan = by (rows.is_sorted tuple_cmp (host_rows plan)) (ascend p
 pub ascend_as : (plan : Plan) (found : List (TupleId × ℤ)) → found ≡ host_rows plan → IsTrue (rows.is_sorted tuple_cmp found)
 ascend_as plan found same = subst (λ (l : List (TupleId × ℤ)). IsTrue (rows.is_sorted tuple_cmp l)) (sym same) (host_rows_ascend plan)
 
-pub fst_as : (plan : Plan) (found : List (TupleId × ℤ)) → found ≡ host_rows plan → map (λ row. row.0) found ≡ map (λ row. row.0) (host_rows plan)
-fst_as plan found same = ap (map (λ row. row.0)) same
-
 -- a tuple is among those of rows where these have it
 listed : (t : TupleId) (values : List (TupleId × ℤ)) → list_any (λ tuple. t.0 == tuple.0) (map (λ row. row.0) values) ≡ is_some (rows.find tuple_cmp t values)
 listed t [] = refl
